@@ -1,0 +1,20 @@
+# make          proves the program and builds it
+# make test     the merge gate: every proof, must-fail edit, test and program
+# make install  copies the program to PREFIX/bin
+# make bench    measures it
+PREFIX ?= /usr/local
+PROGRAM = crates/heif/out/heif
+
+.PHONY: all test install bench
+
+all:
+	cd crates/heif && rt check && rt run > /dev/null
+
+test:
+	rt ci
+
+install: all
+	install -D -m 755 $(PROGRAM) $(DESTDIR)$(PREFIX)/bin/heif
+
+bench: all
+	bench/boxes

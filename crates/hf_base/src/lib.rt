@@ -1,0 +1,15 @@
+//! Numbers, limits and refusals, and the fields that every reader begins with.
+#![tactic(auto)]
+
+mod fault;
+mod four;
+mod front;
+pub mod kinds;
+pub mod laws;
+pub mod limits;
+mod number;
+
+pub use fault::{NoMemory, OpenFault, ReadRefusal};
+pub use four::{FourCc, four_at};
+pub use front::{front_kind, front_version, front8, front16, front24, front32, front64, split};
+pub use number::{be_put, be16, be32, be64};

@@ -1,0 +1,76 @@
+-- The laws of boxes, from reading them.
+use Rattle.std.proofs.Common.{◌≡◌, ℕ, ◌≤◌, ◌+◌, Bool, ◌&&◌, List, length, Result, Ok, Err, refl, sym, ap, ◌∙◌, arith}
+use Rattle.std.proofs.lemmas.List.{length-map, length-append}
+use Rattle.std.proofs.lemmas.List.Elements.{All-from_recursion}
+use Rattle.std.specs.List.{AllByRecursion}
+use Rattle.std.proofs.Common.{All, [], ◌∷◌}
+use Rattle.std.specs.Prelude.{IfOk}
+use Rattle.hf_box.proofs.Spelled.{length_spelling}
+use Rattle.std.specs.Global.{Vec}
+use Rattle.hf_base.specs.declared.fault.ReadRefusal.{ReadRefusal}
+use Rattle.hf_base.specs.declared.fault.OpenFault.{OpenFault}
+use Rattle.hf_base.specs.declared.fault.OpenFault.TheVariants as errors
+use Rattle.hf_base.specs.Number.{IsBytes}
+use Rattle.hf_base.specs.Reading.{Gives, MatchOpen}
+use Rattle.hf_box.specs.declared.view.BoxView.{BoxView}
+use Rattle.hf_base.specs.declared.limits.TheConstants.{BOXES}
+use Rattle.hf_box.specs.Boxes.{end_of, BoxAt, box_of, boxes_of, is_nil, IsBoxes, IsFaultWithin, FrameFault}
+use Rattle.hf_box.specs.Framing.{frames, frames_within}
+use Rattle.hf_box.proofs.Lists.{ok_is, frames_spell, boxes_read}
+use Rattle.hf_box.proofs.Faults.{frames_fault, fault_read}
+
+pub same_boxes : (bytes : List ℕ) (origin : ℕ) (top : Bool) (some others : List BoxAt) → IsBoxes bytes origin top some → IsBoxes bytes origin top others → some ≡ others
+same_boxes bytes origin top some others h k =
+    let limit = length some + length others in
+    ok_is some others (sym (boxes_read limit top origin bytes some h (omega arith)) ∙ boxes_read limit top origin bytes others k (omega arith))
+
+pub fault_reads : (limit : ℕ) (bytes : List ℕ) (origin : ℕ) (top : Bool) (e : ReadRefusal) → IsFaultWithin limit bytes origin top e → frames_within limit top origin bytes ≡ Err e
+fault_reads limit bytes origin top e (boxes, front, rest, whole, are, which) = fault_read boxes limit top origin bytes front rest e whole are which
+
+refused : ReadRefusal → Result (List BoxAt) ReadRefusal
+refused e = Err e
+
+pub same_fault : (limit : ℕ) (bytes : List ℕ) (origin : ℕ) (top : Bool) (e f : ReadRefusal) → IsFaultWithin limit bytes origin top e → IsFaultWithin limit bytes origin top f → e ≡ f
+same_fault limit bytes origin top e f h k =
+    let a = fault_reads limit bytes origin top e h in
+    let b = fault_reads limit bytes origin top f k in
+    cc
+
+pub not_both : (limit : ℕ) (bytes : List ℕ) (origin : ℕ) (top : Bool) (boxes : List BoxAt) (e : ReadRefusal) → IsBoxes bytes origin top boxes → length boxes ≤ limit → IsFaultWithin limit bytes origin top e → ⊥
+not_both limit bytes origin top boxes e h room k =
+    let a = boxes_read limit top origin bytes boxes h room in
+    let b = fault_reads limit bytes origin top e k in
+    cc
+
+abbrev Has : ℕ → List ℕ → ℕ → Bool → Type 0
+Has limit bytes origin top = (boxes : List BoxAt) × IsBoxes bytes origin top boxes × (length boxes ≤ limit)
+
+settled : (limit : ℕ) (bytes : List ℕ) (origin : ℕ) (top : Bool) (r : Result (List BoxAt) ReadRefusal) → IsBytes bytes → frames_within limit top origin bytes ≡ r → ((e : ReadRefusal) → IsFaultWithin limit bytes origin top e → ⊥) → Has limit bytes origin top
+settled limit bytes origin top (Ok boxes) fits is none = let p = frames_spell limit top origin bytes boxes fits is in (boxes, p.0, p.1)
+settled limit bytes origin top (Err e) fits is none = absurd (none e (frames_fault limit top origin bytes e fits is))
+
+pub no_fault : (limit : ℕ) (bytes : List ℕ) (origin : ℕ) (top : Bool) → IsBytes bytes → ((e : ReadRefusal) → IsFaultWithin limit bytes origin top e → ⊥) → Has limit bytes origin top
+no_fault limit bytes origin top fits none = settled limit bytes origin top (frames_within limit top origin bytes) fits refl none
+
+pub is_found : (top : Bool) (origin : ℕ) (bytes : List ℕ) (r : Result (Vec BoxView) OpenFault) → IsBytes bytes → Gives (λ v. boxes_of v.items) r (frames top origin bytes)
+    → MatchOpen r (λ v. IsBoxes bytes origin top (boxes_of v.items) × (length v.items ≤ BOXES)) (λ fault. FrameFault bytes origin top fault)
+is_found top origin bytes (Ok v) fits given =
+    let p = frames_spell BOXES top origin bytes (boxes_of v.items) fits given in
+    (p.0, omega (arith, p.1, length-map {A = BoxView} {B = BoxAt}))
+is_found top origin bytes (Err errors.NoMemory) fits given = tt
+is_found top origin bytes (Err (errors.Unfit e)) fits given = frames_fault BOXES top origin bytes e fits given
+
+-- each box ends within the bytes
+boxes_within : (bytes : List ℕ) (origin limit : ℕ) (top : Bool) (boxes : List BoxView) → origin + length bytes ≤ limit → IsBoxes bytes origin top (boxes_of boxes) → AllByRecursion (λ b. end_of (box_of b) ≤ limit) boxes
+boxes_within bytes origin limit top [] room h = tt
+boxes_within bytes origin limit top (b ∷ bs) room (text, rest, whole, place, four, spelled, more) =
+    let l = length_spelling (top && is_nil (boxes_of bs)) (box_of b) text spelled four in
+    let sum : length bytes ≡ length text + length rest = ap length whole ∙ length-append text rest in
+    (omega (arith, l.0, place), boxes_within rest (origin + length text) limit top bs (omega arith) more)
+
+pub all_within : (top : Bool) (origin : ℕ) (bytes : List ℕ) (r : Result (Vec BoxView) OpenFault) → IsBytes bytes → Gives (λ v. boxes_of v.items) r (frames top origin bytes)
+    → IfOk r (λ v. All (λ b. end_of (box_of b) ≤ origin + length bytes) v.items)
+all_within top origin bytes (Ok v) fits given =
+    let p = frames_spell BOXES top origin bytes (boxes_of v.items) fits given in
+    All-from_recursion (λ b. end_of (box_of b) ≤ origin + length bytes) v.items (boxes_within bytes origin (origin + length bytes) top v.items (omega arith) p.0)
+all_within top origin bytes (Err e) fits given = tt

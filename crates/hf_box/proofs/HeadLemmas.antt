@@ -1,0 +1,40 @@
+-- The header of a box that is written.
+use Rattle.std.proofs.Common.{◌≡◌, ℕ, ◌+◌, ◌^◌, ◌<◌, ◌≤◌, true, false, List, ◌++◌, length, take, drop, ltb, refl, sym, ap, ◌∙◌, append_assoc, arith}
+use Rattle.std.proofs.lemmas.Bool.{lt-ltb, le-ltb}
+use Rattle.std.proofs.lemmas.List.{take_at, drop_at, drop-drop, length-append}
+use borrow.Rule.Slice.PartMut.{put_mid}
+use Rattle.hf_base.specs.Number.{num}
+use Rattle.hf_base.specs.NumberLaws.{length-num}
+use Rattle.hf_base.specs.declared.four.FourCc.{FourCc}
+use Rattle.hf_box.specs.Head.{box_head, box}
+
+pub front_is : (x s k out : List ℕ) → x ≡ s ++ drop 4 out → length s ≡ 4 → put_mid 4 4 x k ≡ (s ++ k) ++ drop 8 out
+front_is x s k out e len =
+    let a : take 4 x ≡ s = ap (take 4) e ∙ take_at s (drop 4 out) 4 len in
+    let b : drop 4 x ≡ drop 4 out = ap (drop 4) e ∙ drop_at s (drop 4 out) 4 len in
+    let c : drop 4 (drop 4 x) ≡ drop 8 out = ap (drop 4) b ∙ drop-drop 4 4 out in
+    ap (λ (l : List ℕ). l ++ (k ++ drop 4 (drop 4 x))) a ∙ ap (λ (l : List ℕ). s ++ (k ++ l)) c ∙ sym (append_assoc s k (drop 8 out))
+
+pub short_head : (kind : FourCc) (body : ℕ) (out rest : List ℕ) → length kind.0 ≡ 4 → body + 8 < 256 ^ 4 → out ≡ (num (body + 8) 4 ++ kind.0) ++ rest → take 8 out ≡ box_head kind body
+unfolding box_head
+short_head kind body out rest four lt e =
+    let t : ltb (8 + body) (256 ^ 4) ≡ true = lt-ltb _ _ (omega arith) in
+    let n : body + 8 ≡ 8 + body = omega arith in
+    let len : length (num (body + 8) 4 ++ kind.0) ≡ 8 = omega (arith, length-append (num (body + 8) 4) kind.0, length-num 4 (body + 8)) in
+    ap (take 8) e ∙ take_at (num (body + 8) 4 ++ kind.0) rest 8 len ∙ rw (t, n) refl
+
+pub long_head : (kind : FourCc) (body : ℕ) (mid out rest after : List ℕ) → length kind.0 ≡ 4 → 256 ^ 4 ≤ body + 8 → mid ≡ (num 1 4 ++ kind.0) ++ rest → out ≡ (take 8 mid ++ num (body + 16) 8) ++ after → take 16 out ≡ box_head kind body
+unfolding box_head
+long_head kind body mid out rest after four le e f =
+    let t : ltb (8 + body) (256 ^ 4) ≡ false = le-ltb _ _ (omega arith) in
+    let n : body + 16 ≡ 16 + body = omega arith in
+    let len : length (num 1 4 ++ kind.0) ≡ 8 = omega (arith, length-append (num 1 4) kind.0, length-num 4 1) in
+    let front : take 8 mid ≡ num 1 4 ++ kind.0 = ap (take 8) e ∙ take_at (num 1 4 ++ kind.0) rest 8 len in
+    let all : length ((num 1 4 ++ kind.0) ++ num (body + 16) 8) ≡ 16 = omega (arith, length-append (num 1 4 ++ kind.0) (num (body + 16) 8), length-num 8 (body + 16)) in
+    ap (take 16) f ∙ ap (λ (l : List ℕ). take 16 ((l ++ num (body + 16) 8) ++ after)) front ∙ take_at ((num 1 4 ++ kind.0) ++ num (body + 16) 8) after 16 all ∙ rw (t, n) refl
+
+-- a box is its header and its body
+pub boxed : (kind : FourCc) (body : ℕ) (front content : List ℕ) → front ≡ box_head kind body → length content ≡ body → front ++ content ≡ box kind content
+unfolding box
+boxed kind body front content e len =
+    ap (λ (l : List ℕ). l ++ content) (e ∙ ap (box_head kind) (sym len))

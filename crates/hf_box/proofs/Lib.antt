@@ -1,0 +1,9 @@
+pub mod Loop
+pub mod Box
+pub mod Spelled
+pub mod Lists
+pub mod Faults
+pub mod BoxLaws
+pub mod Walking
+pub mod HeadLemmas
+pub mod WalkLaws

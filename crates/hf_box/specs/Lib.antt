@@ -1,0 +1,4 @@
+pub mod Boxes
+pub mod Framing
+pub mod Head
+pub mod Walk

@@ -1,0 +1,106 @@
+//! Reading boxes.
+
+ghost use Rattle.std.specs.Prelude.{◌≡◌, ◌⊎◌, ◌+◌, ◌^◌, ◌<◌, ◌≤◌, length, IfOk, All};
+ghost use Rattle.hf_base.specs.Reading.{Reads, Gives, MatchOpen};
+ghost use Rattle.hf_box.specs.Boxes.{end_of, box_of, boxes_of, IsBoxes, FrameFault};
+ghost use Rattle.hf_box.specs.Framing.{cut as cut_of, box_at, frames};
+
+use crate::view::BoxView;
+use hf_base::limits::BOXES;
+use hf_base::{OpenFault, ReadRefusal, be32, be64, four_at};
+use std::alloc::Global;
+
+/// The box with this header and size at the front, and the bytes after it.
+#[tactic(auto, unfolding(crate::specs::Framing::cut))]
+fn cut<'a>(
+    bytes: &'a [u8],
+    head: u8,
+    size: u64,
+    at: u64,
+) -> Result<(BoxView<'a>, &'a [u8]), ReadRefusal>
+    requires head { (head ≡ 8) ⊎ (head ≡ 16) }
+    requires there { head ≤ length bytes.now }
+    ensures exact { Reads (λ x. (box_of x.0, x.1.now)) result (cut_of head size at bytes.now) }
+    ensures whole { IfOk result (λ x. end_of (box_of x.0) + length x.1.now ≡ at + length bytes.now) }
+    ensures shorter { IfOk result (λ x. length x.1.now + 8 ≤ length bytes.now) }
+{
+    if size < u64::from(head) || (bytes.len() as u64) < size {
+        return Err(ReadRefusal::BadSize { at });
+    }
+    let (front, rest) = bytes.split_at(size as usize);
+    let view = BoxView {
+        kind: four_at(bytes, 4),
+        at,
+        head,
+        body: &front[head as usize..],
+    };
+    Ok((view, rest))
+}
+
+/// The box at the front, and the bytes after it.
+#[tactic(auto, unfolding(crate::specs::Framing::box_at))]
+fn first<'a>(bytes: &'a [u8], at: u64, top: bool) -> Result<(BoxView<'a>, &'a [u8]), ReadRefusal>
+    ensures exact { Reads (λ x. (box_of x.0, x.1.now)) result (box_at top at bytes.now) }
+    ensures whole { IfOk result (λ x. end_of (box_of x.0) + length x.1.now ≡ at + length bytes.now) }
+    ensures shorter { IfOk result (λ x. length x.1.now + 8 ≤ length bytes.now) }
+{
+    if bytes.len() < 8 {
+        return Err(ReadRefusal::Short { at });
+    }
+    let size = be32(bytes, 0);
+    if size == 0 {
+        if !top {
+            return Err(ReadRefusal::OpenSize { at });
+        }
+        return cut(bytes, 8, bytes.len() as u64, at);
+    }
+    if size != 1 {
+        return cut(bytes, 8, u64::from(size), at);
+    }
+    if bytes.len() < 16 {
+        return Err(ReadRefusal::Short { at });
+    }
+    cut(bytes, 16, be64(bytes, 8), at)
+}
+
+/// The same, from left to right.
+fn frames_in<'a>(
+    alloc: Global,
+    bytes: &'a [u8],
+    origin: u64,
+    top: bool,
+) -> Result<Vec<BoxView<'a>>, OpenFault>
+    requires { origin + length bytes.now < 2 ^ 64 }
+    ensures exact { Gives (λ v. boxes_of v.items) result (frames top origin bytes.now) }
+{
+    let mut boxes = Vec::new(alloc);
+    let mut rest = bytes;
+    let mut at = origin;
+    while !rest.is_empty() {
+        if boxes.len() == BOXES {
+            return Err(OpenFault::Unfit(ReadRefusal::TooManyBoxes { at }));
+        }
+        let (view, after) = first(rest, at, top)?;
+        at += (rest.len() - after.len()) as u64;
+        rest = after;
+        boxes.push(view)?;
+    }
+    Ok(boxes)
+}
+
+/// The boxes that the bytes are, with places from `origin` on.
+pub fn read_boxes<'a>(
+    alloc: Global,
+    bytes: &'a [u8],
+    origin: u64,
+    top: bool,
+) -> Result<Vec<BoxView<'a>>, OpenFault>
+    requires { origin + length bytes.now < 2 ^ 64 }
+    // Unless memory runs out, the boxes that the bytes are, or the first fault.
+    ensures found { MatchOpen result (λ v. IsBoxes bytes.now origin top (boxes_of v.items) × (length v.items ≤ BOXES)) (λ fault. FrameFault bytes.now origin top fault) }
+    // Each of them ends within the bytes.
+    ensures within { IfOk result (λ v. All (λ b. end_of (box_of b) ≤ origin + length bytes.now) v.items) }
+    ensures exact { Gives (λ v. boxes_of v.items) result (frames top origin bytes.now) }
+{
+    frames_in(alloc, bytes, origin, top)
+}
