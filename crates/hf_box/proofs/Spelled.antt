@@ -212,10 +212,10 @@ spelled_reads top last b text rest (inr (inl p)) four end =
 spelled_reads top last b text rest (inr (inr p)) four end =
     ap (λ (t : List ℕ). box_at top b.at (t ++ rest)) p.2 ∙ open_again top b rest four (end p.0).0 (end p.0).1 p.1
 
-two_parts : (s k body : List ℕ) → length s ≡ 4 → length k ≡ 4 → length ((s ++ k) ++ body) ≡ 8 + length body
+pub two_parts : (s k body : List ℕ) → length s ≡ 4 → length k ≡ 4 → length ((s ++ k) ++ body) ≡ 8 + length body
 two_parts s k body a b = omega (arith, length-append (s ++ k) body, length-append s k)
 
-three_parts : (s k w body : List ℕ) → length s ≡ 4 → length k ≡ 4 → length w ≡ 8 → length (((s ++ k) ++ w) ++ body) ≡ 16 + length body
+pub three_parts : (s k w body : List ℕ) → length s ≡ 4 → length k ≡ 4 → length w ≡ 8 → length (((s ++ k) ++ w) ++ body) ≡ 16 + length body
 three_parts s k w body a b c = omega (arith, length-append ((s ++ k) ++ w) body, length-append (s ++ k) w, length-append s k)
 
 -- how long a spelling is
