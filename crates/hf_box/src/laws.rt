@@ -10,6 +10,7 @@ ghost use Rattle.hf_box.specs.Boxes.{BoxAt, IsBoxes, FrameFault, compact, long};
 ghost use Rattle.hf_box.specs.Framing.{frames};
 ghost use Rattle.hf_box.specs.Head.{box, box_len};
 ghost use Rattle.hf_box.specs.Walk.{IsWalk, IsWalkFault, walk_at};
+ghost use Rattle.hf_box.specs.Worked.{worked_file, worked_rows};
 
 /// Bytes have at most one list of boxes.
 pub fn boxes_are_unique()
@@ -53,4 +54,11 @@ pub fn box_is_the_shortest_spelling()
     ensures compact { (kind : FourCc) (body : List ℕ) → 8 + length body < 256 ^ 4 → box kind body ≡ compact kind body }
     ensures long { (kind : FourCc) (body : List ℕ) → 256 ^ 4 ≤ 8 + length body → box kind body ≡ long kind body }
     ensures length { (kind : FourCc) (body : List ℕ) → length kind.0 ≡ 4 → length (box kind body) ≡ box_len (length body) }
+{}
+
+/// The worked file, of 193 bytes, has its eight rows.
+pub fn worked_file_rows()
+    ensures length { length worked_file ≡ 193 }
+    ensures rows { IsWalk worked_file worked_rows }
+    ensures program { walk_at worked_file ≡ Ok worked_rows }
 {}
