@@ -1,5 +1,5 @@
 -- The laws of boxes, from reading them.
-use Rattle.std.proofs.Common.{◌≡◌, ℕ, ◌≤◌, ◌<◌, ◌+◌, Bool, ◌&&◌, List, ◌++◌, length, get_or, Result, Ok, Err, refl, sym, ap, ◌∙◌, arith, inl, inr, ◌⊎◌}
+use Rattle.std.proofs.Common.{◌≡◌, ℕ, ◌≤◌, ◌+◌, Bool, ◌&&◌, List, ◌++◌, length, get_or, Result, Ok, Err, refl, sym, ap, ◌∙◌, arith, inl, inr, ◌⊎◌}
 use Rattle.std.specs.Prelude.{◌↔◌}
 use Rattle.std.proofs.lemmas.Bool.{cases_lt}
 use Rattle.std.proofs.lemmas.List.{length-map, length-append, get_or_append_left, get_or_past}
@@ -14,11 +14,12 @@ use Rattle.hf_base.specs.declared.fault.OpenFault.{OpenFault}
 use Rattle.hf_base.specs.declared.fault.OpenFault.TheVariants as errors
 use Rattle.hf_base.specs.Number.{IsBytes, num}
 use Rattle.hf_base.specs.Reading.{Gives, MatchOpen}
+use Rattle.hf_base.specs.ReadingLaws.{ok_is}
 use Rattle.hf_box.specs.declared.view.BoxView.{BoxView}
 use Rattle.hf_base.specs.declared.limits.TheConstants.{BOXES}
 use Rattle.hf_box.specs.Boxes.{end_of, BoxAt, box_of, boxes_of, is_nil, IsSpelling, IsBoxes, IsFaultWithin, FrameFault}
 use Rattle.hf_box.specs.Framing.{frames, frames_within}
-use Rattle.hf_box.proofs.Lists.{ok_is, frames_spell, boxes_read, IsBytes-rest}
+use Rattle.hf_box.proofs.Lists.{frames_spell, boxes_read, IsBytes-rest}
 use Rattle.hf_box.proofs.Faults.{frames_fault, fault_read}
 
 pub same_boxes : (bytes : List ℕ) (origin : ℕ) (top : Bool) (some others : List BoxAt) → IsBoxes bytes origin top some → IsBoxes bytes origin top others → some ≡ others
@@ -44,22 +45,24 @@ not_both limit bytes origin top boxes e h room k =
     let b = fault_reads limit bytes origin top e k in
     cc
 
-abbrev Has : ℕ → List ℕ → ℕ → Bool → Type 0
-Has limit bytes origin top = (boxes : List BoxAt) × IsBoxes bytes origin top boxes × (length boxes ≤ limit)
+abbrev HasBoxes : List ℕ → ℕ → Bool → Type 0
+HasBoxes bytes origin top = (boxes : List BoxAt) × IsBoxes bytes origin top boxes × (length boxes ≤ BOXES)
 
-settled : (limit : ℕ) (bytes : List ℕ) (origin : ℕ) (top : Bool) (r : Result (List BoxAt) ReadRefusal) → IsBytes bytes → frames_within limit top origin bytes ≡ r → ((e : ReadRefusal) → IsFaultWithin limit bytes origin top e → ⊥) → Has limit bytes origin top
-settled limit bytes origin top (Ok boxes) fits is none = let p = frames_spell limit top origin bytes boxes fits is in (boxes, p.0, p.1)
-settled limit bytes origin top (Err e) fits is none = absurd (none e (frames_fault limit top origin bytes e fits is))
+abbrev HasFault : List ℕ → ℕ → Bool → Type 0
+HasFault bytes origin top = (e : ReadRefusal) × FrameFault bytes origin top e
 
-pub no_fault : (limit : ℕ) (bytes : List ℕ) (origin : ℕ) (top : Bool) → IsBytes bytes → ((e : ReadRefusal) → IsFaultWithin limit bytes origin top e → ⊥) → Has limit bytes origin top
-no_fault limit bytes origin top fits none = settled limit bytes origin top (frames_within limit top origin bytes) fits refl none
-
-pub boxes_or_fault : (bytes : List ℕ) (origin : ℕ) (top : Bool) → IsBytes bytes → ((boxes : List BoxAt) × IsBoxes bytes origin top boxes × (length boxes ≤ BOXES)) ⊎ ((e : ReadRefusal) × FrameFault bytes origin top e)
+pub boxes_or_fault : (bytes : List ℕ) (origin : ℕ) (top : Bool) → IsBytes bytes → HasBoxes bytes origin top ⊎ HasFault bytes origin top
 boxes_or_fault bytes origin top fits = by_answer (frames top origin bytes) refl
   where
-    by_answer : (r : Result (List BoxAt) ReadRefusal) → frames top origin bytes ≡ r → ((boxes : List BoxAt) × IsBoxes bytes origin top boxes × (length boxes ≤ BOXES)) ⊎ ((e : ReadRefusal) × FrameFault bytes origin top e)
+    by_answer : (r : Result (List BoxAt) ReadRefusal) → frames top origin bytes ≡ r → HasBoxes bytes origin top ⊎ HasFault bytes origin top
     by_answer (Ok boxes) is = let p = frames_spell BOXES top origin bytes boxes fits is in inl (boxes, p.0, p.1)
     by_answer (Err e) is = inr (e, frames_fault BOXES top origin bytes e fits is)
+
+pub no_fault : (bytes : List ℕ) (origin : ℕ) (top : Bool) → IsBytes bytes → ((e : ReadRefusal) → FrameFault bytes origin top e → ⊥) → HasBoxes bytes origin top
+no_fault bytes origin top fits none = elim (boxes_or_fault bytes origin top fits) [
+  | inl h ↦ h
+  | inr f ↦ absurd (none f.0 f.1)
+]
 
 pub is_found : (top : Bool) (origin : ℕ) (bytes : List ℕ) (r : Result (Vec BoxView) OpenFault) → IsBytes bytes → Gives (λ v. boxes_of v.items) r (frames top origin bytes)
     → MatchOpen r (λ v. IsBoxes bytes origin top (boxes_of v.items) × (length v.items ≤ BOXES)) (λ fault. FrameFault bytes origin top fault)

@@ -1,11 +1,9 @@
 -- Walking from left to right gives the rows, or the fault.
-use Rattle.std.proofs.Common.{◌≡◌, ℕ, ◌+◌, ◌≤◌, ◌<◌, Bool, true, false, cond, List, [], ◌∷◌, ◌++◌, length, drop, map, Result, Ok, Err, refl, sym, ap, subst, ◌∙◌, append_assoc, arith, inl, inr, ◌⊎◌}
+use Rattle.std.proofs.Common.{◌≡◌, ℕ, ◌+◌, true, false, List, [], ◌∷◌, ◌++◌, length, drop, map, Result, Ok, Err, refl, sym, ap, subst, ◌∙◌, inl, inr, ◌⊎◌}
 use Rattle.std.specs.Prelude.{◌↔◌}
 use Rattle.std.specs.List.{AllByRecursion}
-use Rattle.std.specs.Str.{bytes_eq}
 use Rattle.std.specs.Global.{Vec}
 use Rattle.std.proofs.lemmas.Bool.{le-ltb, lt-ltb, false_from_ne_true, cases_Bool, cases_lt}
-use Rattle.std.proofs.lemmas.List.{map-append}
 use Rattle.std.proofs.lemmas.Slice.Eq.{bytes_eq-Decides}
 use Rattle.hf_base.specs.declared.four.FourCc.{FourCc}
 use Rattle.hf_base.specs.declared.kinds.TheConstants.{META}
@@ -17,7 +15,6 @@ use Rattle.hf_base.specs.Reading.{◌>>=◌, Gives, MatchOpen}
 use Rattle.hf_box.specs.declared.view.BoxRow.{BoxRow}
 use Rattle.hf_base.specs.declared.limits.TheConstants.{BOXES}
 use Rattle.hf_box.specs.Boxes.{BoxAt, IsBoxes}
-use Rattle.hf_box.specs.Framing.{frames}
 use Rattle.hf_box.specs.Walk.{row_of, IsNotMeta, AreChildren, IsChildrenFault, HasMeta, IsWalk, IsWalkFault, is_kind, children_at, rows_of, walk_at}
 use Rattle.hf_box.proofs.Lists.{boxes_read}
 use Rattle.hf_base.specs.Number.{IsBytes}

@@ -1,5 +1,5 @@
 -- The rows of the worked file, by computation.
-use Rattle.std.proofs.Common.{◌≡◌, ℕ, zero, suc, ◌<◌, Bool, true, ◌&&◌, ltb, List, [], ◌∷◌, length, Ok, refl, arith}
+use Rattle.std.proofs.Common.{◌≡◌, ℕ, zero, suc, Bool, true, ◌&&◌, ltb, List, [], ◌∷◌, length, Ok, refl, arith}
 use Rattle.std.proofs.lemmas.Bool.{and_parts, ltb-true}
 use Rattle.hf_base.specs.Number.{IsBytes, number}
 use Rattle.hf_box.specs.Framing.{cut, box_at, frames_within}

@@ -1,5 +1,5 @@
 -- Types and bytes as they are printed in texts on the format.
-use Rattle.std.specs.Prelude.{ℕ, ◌+◌, ◌-◌, ◌*◌, List, [], ◌∷◌, nat_lt, not, ◌==◌, filter, if◌then◌else◌, codes}
+use Rattle.std.specs.Prelude.{ℕ, ◌+◌, ◌-◌, ◌*◌, List, [], ◌∷◌, nat_lt, not, ◌==◌, filter, if◌then◌else◌}
 use Rattle.hf_base.specs.declared.four.FourCc.{FourCc}
 
 -- the type that these four characters spell
