@@ -7,44 +7,32 @@ use Rattle.hf_base.specs.declared.fault.ReadRefusal.{ReadRefusal}
 use Rattle.hf_base.specs.declared.fault.ReadRefusal.TheVariants.{Short, BadSize, OpenSize}
 use Rattle.hf_base.specs.Number.{number}
 use Rattle.hf_base.specs.Reading.{four_at}
+use Rattle.hf_base.specs.ReadingLaws.{guard_ok, guard_err}
 use Rattle.hf_box.specs.Boxes.{BoxAt, long}
 use Rattle.hf_box.specs.Framing.{cut, box_at}
 
--- a test that did not fail
-guard_ok : {A : Type 0} (b : Bool) (d : ReadRefusal) (x y : A) → cond b (Err d) (Ok x) ≡ Ok y → (b ≡ false) × (x ≡ y)
-guard_ok true d x y e = absurd cc
-guard_ok false d x y e = (refl, cc)
-
-guard_err : {A : Type 0} (b : Bool) (d e : ReadRefusal) (x : A) → cond b (Err d) (Ok x) ≡ Err e → (b ≡ true) × (d ≡ e)
-guard_err true d e x h = (refl, cc)
-guard_err false d e x h = absurd cc
-
-pub chosen : {A : Type 0} (b : Bool) (x y z : A) → cond b x y ≡ z → ((b ≡ true) × (x ≡ z)) ⊎ ((b ≡ false) × (y ≡ z))
-chosen true x y z e = inl (refl, e)
-chosen false x y z e = inr (refl, e)
-
 -- ---- a box that is cut from the front
 
-abbrev pub cell_of : ℕ → ℕ → ℕ → List ℕ → BoxAt
-cell_of head size at bytes = record { kind = four_at 4 bytes; at = at; head = head; body = drop head (take size bytes) }
+abbrev pub cut_box : ℕ → ℕ → ℕ → List ℕ → BoxAt
+cut_box head size at bytes = record { kind = four_at 4 bytes; at = at; head = head; body = drop head (take size bytes) }
 
 pub record Cuts (head size at : ℕ) (bytes : List ℕ) (x : BoxAt × List ℕ) : Type 0 where
   pub low : head ≤ size
   pub high : size ≤ length bytes
-  pub box : cell_of head size at bytes ≡ x.0
+  pub box : cut_box head size at bytes ≡ x.0
   pub rest : drop size bytes ≡ x.1
 
 pub cut_ok : (head size at : ℕ) (bytes : List ℕ) (x : BoxAt × List ℕ) → cut head size at bytes ≡ Ok x → Cuts head size at bytes x
 unfolding cut
 cut_ok head size at bytes x e =
-    let g = guard_ok (ltb size head || ltb (length bytes) size) (BadSize at) (cell_of head size at bytes, drop size bytes) x e in
+    let g = guard_ok (ltb size head || ltb (length bytes) size) (BadSize at) (cut_box head size at bytes, drop size bytes) x e in
     let p = or_parts (ltb size head) (ltb (length bytes) size) g.0 in
     record { low = ltb-false _ _ p.0; high = ltb-false _ _ p.1; box = ap (λ (y : BoxAt × List ℕ). y.0) g.1; rest = ap (λ (y : BoxAt × List ℕ). y.1) g.1 }
 
 pub cut_err : (head size at : ℕ) (bytes : List ℕ) (e : ReadRefusal) → cut head size at bytes ≡ Err e → (e ≡ BadSize at) × ((size < head) ⊎ (length bytes < size))
 unfolding cut
 cut_err head size at bytes e h =
-    let g = guard_err (ltb size head || ltb (length bytes) size) (BadSize at) e (cell_of head size at bytes, drop size bytes) h in
+    let g = guard_err (ltb size head || ltb (length bytes) size) (BadSize at) e (cut_box head size at bytes, drop size bytes) h in
     (sym g.1, elim (or_cases (ltb size head) (ltb (length bytes) size) g.0) [ inl a ↦ inl (ltb-true _ _ a) | inr b ↦ inr (ltb-true _ _ b) ])
 
 -- where the sizes fit, it is cut

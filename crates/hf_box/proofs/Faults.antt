@@ -5,11 +5,12 @@ use Rattle.hf_base.specs.declared.fault.ReadRefusal.{ReadRefusal}
 use Rattle.hf_base.specs.declared.fault.ReadRefusal.TheVariants.{Short, BadSize, OpenSize, TooManyBoxes}
 use Rattle.hf_base.specs.Number.{IsBytes, number}
 use Rattle.hf_base.specs.Reading.{◌>>=◌}
-use Rattle.hf_box.specs.Boxes.{end_of, BoxAt, IsSpelling, IsBoxes, IsShort, IsBadSize, IsOpen, BeginsNoBox, IsFaultWithin}
+use Rattle.hf_base.specs.ReadingLaws.{bind_err}
+use Rattle.hf_box.specs.Boxes.{end_of, BoxAt, IsSpelling, IsBoxes, IsShort, IsBadSize, IsOpenInside, BeginsNoBox, IsFaultWithin}
 use Rattle.hf_box.specs.Framing.{cut, box_at, frames_within}
 use Rattle.hf_box.proofs.Box.{Way, few, half, opened, longer, plain, way, cut_err, cut_refused, few_at, half_at, long_at, compact_at, open_at}
 use Rattle.hf_box.proofs.Spelled.{Takes, box_takes}
-use Rattle.hf_box.proofs.Lists.{bind_err, frames_nil, frames_cons, frames_full, IsBytes-rest, first_reads}
+use Rattle.hf_box.proofs.Lists.{frames_nil, frames_cons, frames_full, IsBytes-rest, first_reads}
 
 abbrev bad : {A : Type 0} → ReadRefusal → Result A ReadRefusal
 bad e = Err e
@@ -54,7 +55,7 @@ size_refused : (top : Bool) (at : ℕ) (bytes : List ℕ) → IsBadSize bytes �
 size_refused top at bytes (len, inl p) = (compact_at top at bytes len p.0 ∙ cut_refused 8 (number 4 bytes) at bytes p.1, omega arith)
 size_refused top at bytes (len, inr p) = (long_at top at bytes p.1 p.0 ∙ cut_refused 16 (number 8 (drop 8 bytes)) at bytes p.2, omega arith)
 
-open_refused : (top : Bool) (at : ℕ) (bytes : List ℕ) → IsOpen top bytes → (box_at top at bytes ≡ Err (OpenSize at)) × (0 < length bytes)
+open_refused : (top : Bool) (at : ℕ) (bytes : List ℕ) → IsOpenInside top bytes → (box_at top at bytes ≡ Err (OpenSize at)) × (0 < length bytes)
 open_refused top at bytes (len, none, inside) = (open_at top at bytes len none ∙ ap (λ (o : Bool). cond o (cut 8 (length bytes) at bytes) (Err (OpenSize at))) inside, omega arith)
 
 pub box_refused : (top : Bool) (place : ℕ) (bytes : List ℕ) (e : ReadRefusal) → BeginsNoBox top place bytes e → (box_at top place bytes ≡ Err e) × (0 < length bytes)

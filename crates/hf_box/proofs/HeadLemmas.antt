@@ -1,12 +1,14 @@
 -- The header of a box that is written.
-use Rattle.std.proofs.Common.{◌≡◌, ℕ, ◌+◌, ◌^◌, ◌<◌, ◌≤◌, true, false, List, ◌++◌, length, take, drop, ltb, refl, sym, ap, ◌∙◌, append_assoc, arith}
-use Rattle.std.proofs.lemmas.Bool.{lt-ltb, le-ltb}
+use Rattle.std.proofs.Common.{◌≡◌, ℕ, ◌+◌, ◌^◌, ◌<◌, ◌≤◌, true, false, List, ◌++◌, length, take, drop, ltb, refl, sym, ap, ◌∙◌, append_assoc, arith, inl, inr}
+use Rattle.std.proofs.lemmas.Bool.{lt-ltb, le-ltb, cases_lt}
 use Rattle.std.proofs.lemmas.List.{take_at, drop_at, drop-drop, length-append}
 use borrow.Rule.Slice.PartMut.{put_mid}
 use Rattle.hf_base.specs.Number.{num}
 use Rattle.hf_base.specs.NumberLaws.{length-num}
 use Rattle.hf_base.specs.declared.four.FourCc.{FourCc}
-use Rattle.hf_box.specs.Head.{box_head, box}
+use Rattle.hf_box.specs.Head.{box_len, box_head, box}
+use Rattle.hf_box.specs.Boxes.{compact, long}
+use Rattle.hf_box.proofs.Spelled.{two_parts, three_parts}
 
 pub front_is : (x s k out : List ℕ) → x ≡ s ++ drop 4 out → length s ≡ 4 → put_mid 4 4 x k ≡ (s ++ k) ++ drop 8 out
 front_is x s k out e len =
@@ -38,3 +40,31 @@ pub boxed : (kind : FourCc) (body : ℕ) (front content : List ℕ) → front �
 unfolding box
 boxed kind body front content e len =
     ap (λ (l : List ℕ). l ++ content) (e ∙ ap (box_head kind) (sym len))
+
+-- ---- a box is the shortest spelling
+
+pub box-compact : (kind : FourCc) (body : List ℕ) → 8 + length body < 256 ^ 4 → box kind body ≡ compact kind body
+unfolding box box_head
+box-compact kind body lt =
+    let t : ltb (8 + length body) (256 ^ 4) ≡ true = lt-ltb _ _ lt in
+    rw t refl
+
+pub box-long : (kind : FourCc) (body : List ℕ) → 256 ^ 4 ≤ 8 + length body → box kind body ≡ long kind body
+unfolding box box_head
+box-long kind body le =
+    let t : ltb (8 + length body) (256 ^ 4) ≡ false = le-ltb _ _ le in
+    rw t refl
+
+box_len-compact : (body : ℕ) → 8 + body < 256 ^ 4 → box_len body ≡ 8 + body
+unfolding box_len
+box_len-compact body lt = let t : ltb (8 + body) (256 ^ 4) ≡ true = lt-ltb _ _ lt in rw t refl
+
+box_len-long : (body : ℕ) → 256 ^ 4 ≤ 8 + body → box_len body ≡ 16 + body
+unfolding box_len
+box_len-long body le = let t : ltb (8 + body) (256 ^ 4) ≡ false = le-ltb _ _ le in rw t refl
+
+pub length-box : (kind : FourCc) (body : List ℕ) → length kind.0 ≡ 4 → length (box kind body) ≡ box_len (length body)
+length-box kind body four = elim (cases_lt (8 + length body) (256 ^ 4)) [
+  | inl lt ↦ ap length (box-compact kind body lt) ∙ two_parts (num (8 + length body) 4) kind.0 body (length-num 4 (8 + length body)) four ∙ sym (box_len-compact (length body) lt)
+  | inr le ↦ ap length (box-long kind body le) ∙ three_parts (num 1 4) kind.0 (num (16 + length body) 8) body (length-num 4 1) four (length-num 8 (16 + length body)) ∙ sym (box_len-long (length body) le)
+]

@@ -7,3 +7,4 @@ pub mod BoxLaws
 pub mod Walking
 pub mod HeadLemmas
 pub mod WalkLaws
+pub mod Worked

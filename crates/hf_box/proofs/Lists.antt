@@ -1,28 +1,18 @@
 -- Lists of boxes: what is read is them, and they are read.
-use Rattle.std.proofs.Common.{◌≡◌, ℕ, zero, suc, ◌+◌, ◌≤◌, ◌<◌, Bool, true, false, ◌&&◌, List, [], ◌∷◌, ◌++◌, length, get_or, Result, Ok, Err, refl, sym, ap, subst, ◌∙◌, arith, inl, inr, ◌⊎◌}
+use Rattle.std.proofs.Common.{◌≡◌, ℕ, zero, suc, ◌+◌, ◌≤◌, ◌<◌, Bool, true, false, ◌&&◌, List, [], ◌∷◌, ◌++◌, length, get_or, Result, Ok, Err, refl, sym, ap, subst, ◌∙◌, arith, inl, inr}
 use Rattle.std.proofs.lemmas.Bool.{and_parts}
 use Rattle.std.proofs.lemmas.List.{length-append, get_or-append-add}
 use Rattle.hf_base.specs.declared.fault.ReadRefusal.{ReadRefusal}
 use Rattle.hf_base.specs.declared.fault.ReadRefusal.TheVariants.{TooManyBoxes}
 use Rattle.hf_base.specs.Number.{IsBytes}
 use Rattle.hf_base.specs.Reading.{◌>>=◌}
+use Rattle.hf_base.specs.ReadingLaws.{bind_ok, ok_is}
 use Rattle.hf_box.specs.Boxes.{end_of, BoxAt, is_nil, IsSpelling, IsBoxes}
 use Rattle.hf_box.specs.Framing.{box_at, frames_within}
 use Rattle.hf_box.proofs.Spelled.{Takes, box_takes, spelled_reads, length_spelling, anywhere}
 
 abbrev fine : {A : Type 0} → A → Result A ReadRefusal
 fine x = Ok x
-
-pub bind_ok : {A B : Type 0} (r : Result A ReadRefusal) (f : A → Result B ReadRefusal) (y : B) → (r >>= f) ≡ Ok y → (x : A) × (r ≡ Ok x) × (f x ≡ Ok y)
-bind_ok (Ok x) f y e = (x, refl, e)
-bind_ok (Err d) f y e = absurd cc
-
-pub bind_err : {A B : Type 0} (r : Result A ReadRefusal) (f : A → Result B ReadRefusal) (d : ReadRefusal) → (r >>= f) ≡ Err d → (r ≡ Err d) ⊎ ((x : A) × (r ≡ Ok x) × (f x ≡ Err d))
-bind_err (Ok x) f d e = inr (x, refl, e)
-bind_err (Err c) f d e = inl cc
-
-pub ok_is : {A : Type 0} (x y : A) → fine x ≡ fine y → x ≡ y
-ok_is x y e = cc
 
 pub frames_nil : (limit : ℕ) (top : Bool) (at : ℕ) (bytes : List ℕ) → bytes ≡ [] → frames_within limit top at bytes ≡ Ok []
 unfolding frames_within
@@ -63,6 +53,11 @@ box_first top at bytes x others t last more =
     at_end true last b text e h = subst (λ (o : Bool). IsSpelling o b text) (sym e) h
     at_end false last b text e h = h
 
+more_boxes : (n : ℕ) (top : Bool) (at : ℕ) (bytes : List ℕ) (x : BoxAt × List ℕ) (others boxes : List BoxAt) → fine (x.0 ∷ others) ≡ fine boxes → Takes top at bytes x → (x.1 ≡ [] → is_nil others ≡ true)
+    → IsBoxes x.1 (end_of x.0) top others → length others ≤ n → IsBoxes bytes at top boxes × (length boxes ≤ suc n)
+more_boxes n top at bytes x others boxes e t last more room =
+    subst (λ (bs : List BoxAt). IsBoxes bytes at top bs × (length bs ≤ suc n)) (ok_is (x.0 ∷ others) boxes e) (box_first top at bytes x others t last more, omega arith)
+
 pub frames_spell : (limit : ℕ) (top : Bool) (at : ℕ) (bytes : List ℕ) (boxes : List BoxAt) → IsBytes bytes → frames_within limit top at bytes ≡ Ok boxes → IsBoxes bytes at top boxes × (length boxes ≤ limit)
 frames_spell limit top at [] boxes fits e =
     let none : [] ≡ boxes = ok_is [] boxes (sym (frames_nil limit top at [] refl) ∙ e) in
@@ -75,7 +70,7 @@ frames_spell (suc n) top at (x ∷ xs) boxes fits e =
     let t = box_takes top at bytes a.0 fits a.1 in
     let more = frames_spell n top (end_of a.0.0) a.0.1 b.0 (IsBytes-rest bytes t.text a.0.1 t.whole fits) b.1 in
     let last : a.0.1 ≡ [] → is_nil b.0 ≡ true = λ none. nil_is b.0 (sym (frames_nil n top (end_of a.0.0) a.0.1 none) ∙ b.1) in
-    subst (λ (bs : List BoxAt). IsBoxes bytes at top bs × (length bs ≤ suc n)) (ok_is (a.0.0 ∷ b.0) boxes b.2) (box_first top at bytes a.0 b.0 t last more.0, omega (arith, more.1))
+    more_boxes n top at bytes a.0 b.0 boxes b.2 t last more.0 more.1
 
 -- behind a box that reaches the end nothing comes
 ends_all : (top : Bool) (others : List BoxAt) (rest : List ℕ) (place : ℕ) → (top && is_nil others) ≡ true → IsBoxes rest place top others → (top ≡ true) × (rest ≡ [])

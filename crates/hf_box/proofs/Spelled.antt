@@ -1,18 +1,16 @@
 -- One box: what is read at the front is spelled there, and what is spelled there is read.
 use Rattle.std.proofs.Common.{◌≡◌, ℕ, ◌-◌, ◌+◌, ◌^◌, ◌≤◌, ◌<◌, Bool, true, false, cond, List, [], ◌++◌, length, take, drop, Result, Ok, Err, refl, sym, ap, subst, ◌∙◌, append_assoc, arith, inl, inr, ◌⊎◌}
-use Rattle.std.proofs.lemmas.List.{take-append-drop, length-append, length-take-le, length-drop, take_at, drop_at, take-take, drop-take, drop-drop, get_or-drop, append-nil, drop_all}
+use Rattle.std.proofs.lemmas.List.{take-append-drop, length-append, length-take-le, length-drop, take_at, drop_at, take-take, drop-take, drop-drop, append-nil, drop_all}
 use Rattle.hf_base.specs.declared.four.FourCc.{FourCc}
 use Rattle.hf_base.specs.declared.fault.ReadRefusal.{ReadRefusal}
 use Rattle.hf_base.specs.declared.fault.ReadRefusal.TheVariants.{OpenSize}
 use Rattle.hf_base.specs.Number.{IsBytes, num, number}
 use Rattle.hf_base.specs.NumberLaws.{num-number, number-num, length-num, number-below}
 use Rattle.hf_base.specs.Reading.{four_at}
+use Rattle.hf_base.specs.ReadingLaws.{IsBytes-drop}
 use Rattle.hf_box.specs.Boxes.{BoxAt, compact, long, open_ended, IsSpelling}
 use Rattle.hf_box.specs.Framing.{cut, box_at}
-use Rattle.hf_box.proofs.Box.{Cuts, cell_of, cut_ok, cut_again, Way, few, half, opened, longer, plain, way, open_at, long_at, compact_at}
-
-pub IsBytes-drop : (n : ℕ) (bytes : List ℕ) → IsBytes bytes → IsBytes (drop n bytes)
-IsBytes-drop n bytes h i = rw get_or-drop (h (n + i))
+use Rattle.hf_box.proofs.Box.{Cuts, cut_box, cut_ok, cut_again, Way, few, half, opened, longer, plain, way, open_at, long_at, compact_at}
 
 -- ---- what is read is spelled
 
@@ -71,7 +69,7 @@ takes_plain top at n bytes x fits len is c =
     let size : 8 + length (drop 8 t) ≡ n = omega (arith, length-drop 8 t, c.low) in
     let spelled : t ≡ compact (four_at 4 bytes) (drop 8 t) = cut_text n bytes c.low c.high ∙ ap (λ (f : List ℕ). (f ++ take 4 (drop 4 bytes)) ++ drop 8 t) (size_is n bytes fits len is ∙ ap (λ (k : ℕ). num k 4) (sym size)) in
     let below : n < 256 ^ 4 = subst (λ (k : ℕ). k < 256 ^ 4) is (number-below 4 bytes fits) in
-    let made : Takes top at bytes (cell_of 8 n at bytes, drop n bytes) = record {
+    let made : Takes top at bytes (cut_box 8 n at bytes, drop n bytes) = record {
       text = t;
       whole = sym (take-append-drop n bytes);
       place = refl;
@@ -80,7 +78,7 @@ takes_plain top at n bytes x fits len is c =
       ends = omega arith;
       some = omega (arith, c.low);
     } in
-    subst (λ (b : BoxAt). Takes top at bytes (b, x.1)) c.box (subst (λ (r : List ℕ). Takes top at bytes (cell_of 8 n at bytes, r)) c.rest made)
+    subst (λ (b : BoxAt). Takes top at bytes (b, x.1)) c.box (subst (λ (r : List ℕ). Takes top at bytes (cut_box 8 n at bytes, r)) c.rest made)
 
 takes_long : (top : Bool) (at n : ℕ) (bytes : List ℕ) (x : BoxAt × List ℕ) → IsBytes bytes → 16 ≤ length bytes → number 4 bytes ≡ 1 → number 8 (drop 8 bytes) ≡ n → Cuts 16 n at bytes x → Takes top at bytes x
 takes_long top at n bytes x fits len is sized c =
@@ -95,7 +93,7 @@ takes_long top at n bytes x fits len is sized c =
     ∙ ap (λ (f : List ℕ). ((f ++ take 4 (drop 4 bytes)) ++ take 8 (drop 8 bytes)) ++ drop 16 t) one
     ∙ ap (λ (f : List ℕ). ((num 1 4 ++ take 4 (drop 4 bytes)) ++ f) ++ drop 16 t) eight in
     let below : n < 256 ^ 8 = subst (λ (k : ℕ). k < 256 ^ 8) sized (number-below 8 (drop 8 bytes) fits8) in
-    let made : Takes top at bytes (cell_of 16 n at bytes, drop n bytes) = record {
+    let made : Takes top at bytes (cut_box 16 n at bytes, drop n bytes) = record {
       text = t;
       whole = sym (take-append-drop n bytes);
       place = refl;
@@ -104,7 +102,7 @@ takes_long top at n bytes x fits len is sized c =
       ends = omega arith;
       some = omega (arith, c.low);
     } in
-    subst (λ (b : BoxAt). Takes top at bytes (b, x.1)) c.box (subst (λ (r : List ℕ). Takes top at bytes (cell_of 16 n at bytes, r)) c.rest made)
+    subst (λ (b : BoxAt). Takes top at bytes (b, x.1)) c.box (subst (λ (r : List ℕ). Takes top at bytes (cut_box 16 n at bytes, r)) c.rest made)
 
 takes_open : (at : ℕ) (bytes : List ℕ) (x : BoxAt × List ℕ) → IsBytes bytes → 8 ≤ length bytes → number 4 bytes ≡ 0 → Cuts 8 (length bytes) at bytes x → Takes true at bytes x
 takes_open at bytes x fits len is c =
@@ -112,7 +110,7 @@ takes_open at bytes x fits len is c =
     let t : List ℕ = take n bytes in
     let t-len : length t ≡ n = length-take-le n bytes c.high in
     let spelled : t ≡ open_ended (four_at 4 bytes) (drop 8 t) = cut_text n bytes c.low c.high ∙ ap (λ (f : List ℕ). (f ++ take 4 (drop 4 bytes)) ++ drop 8 t) (size_is 0 bytes fits len is) in
-    let made : Takes true at bytes (cell_of 8 n at bytes, drop n bytes) = record {
+    let made : Takes true at bytes (cut_box 8 n at bytes, drop n bytes) = record {
       text = t;
       whole = sym (take-append-drop n bytes);
       place = refl;
@@ -121,7 +119,7 @@ takes_open at bytes x fits len is c =
       ends = omega (arith, length-drop 8 t);
       some = omega (arith, c.low);
     } in
-    subst (λ (b : BoxAt). Takes true at bytes (b, x.1)) c.box (subst (λ (r : List ℕ). Takes true at bytes (cell_of 8 n at bytes, r)) c.rest made)
+    subst (λ (b : BoxAt). Takes true at bytes (b, x.1)) c.box (subst (λ (r : List ℕ). Takes true at bytes (cut_box 8 n at bytes, r)) c.rest made)
 
 opened_takes : (top : Bool) (at : ℕ) (bytes : List ℕ) (x : BoxAt × List ℕ) → IsBytes bytes → 8 ≤ length bytes → number 4 bytes ≡ 0 → cond top (cut 8 (length bytes) at bytes) (Err (OpenSize at)) ≡ Ok x → Takes top at bytes x
 opened_takes true at bytes x fits len is e = takes_open at bytes x fits len is (cut_ok 8 (length bytes) at bytes x e)
@@ -212,10 +210,10 @@ spelled_reads top last b text rest (inr (inl p)) four end =
 spelled_reads top last b text rest (inr (inr p)) four end =
     ap (λ (t : List ℕ). box_at top b.at (t ++ rest)) p.2 ∙ open_again top b rest four (end p.0).0 (end p.0).1 p.1
 
-two_parts : (s k body : List ℕ) → length s ≡ 4 → length k ≡ 4 → length ((s ++ k) ++ body) ≡ 8 + length body
+pub two_parts : (s k body : List ℕ) → length s ≡ 4 → length k ≡ 4 → length ((s ++ k) ++ body) ≡ 8 + length body
 two_parts s k body a b = omega (arith, length-append (s ++ k) body, length-append s k)
 
-three_parts : (s k w body : List ℕ) → length s ≡ 4 → length k ≡ 4 → length w ≡ 8 → length (((s ++ k) ++ w) ++ body) ≡ 16 + length body
+pub three_parts : (s k w body : List ℕ) → length s ≡ 4 → length k ≡ 4 → length w ≡ 8 → length (((s ++ k) ++ w) ++ body) ≡ 16 + length body
 three_parts s k w body a b c = omega (arith, length-append ((s ++ k) ++ w) body, length-append (s ++ k) w, length-append s k)
 
 -- how long a spelling is

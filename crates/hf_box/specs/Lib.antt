@@ -1,4 +1,6 @@
 pub mod Boxes
 pub mod Framing
 pub mod Head
+pub mod Literals
 pub mod Walk
+pub mod Worked

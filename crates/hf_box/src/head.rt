@@ -1,4 +1,4 @@
-//! The header of a box that is written.
+//! The header of a box as it is written (ISO/IEC 14496-12, Box).
 
 ghost use Rattle.std.specs.Prelude.{◌≡◌, ◌⊎◌, ◌+◌, ◌^◌, ◌<◌, ◌≤◌, ◌++◌, ℕ, List, length, take, drop};
 ghost use Rattle.hf_base.specs.Number.{num};
@@ -6,14 +6,16 @@ ghost use Rattle.hf_box.specs.Head.{box, box_head};
 
 use hf_base::{FourCc, be_put};
 
-/// The header of a box, in the first `len` of the bytes.
+/// The header of a box.
 #[derive(Clone, Copy, Debug)]
 pub struct Head {
+    /// The header in the first `len` bytes; those behind it mean nothing.
     pub bytes: [u8; 16],
+    /// How many bytes it takes, 8 or 16.
     pub len: u8,
 }
 
-/// Writes a size of four bytes and a type.
+/// Writes a size in four bytes and a type over the first eight bytes.
 fn put_front(out: &mut [u8], size: u32, kind: FourCc)
     requires { 8 ≤ length out.old }
     ensures { out.new ≡ (num size 4 ++ kind.0) ++ drop 8 out.old }
@@ -22,7 +24,8 @@ fn put_front(out: &mut [u8], size: u32, kind: FourCc)
     out[4..8].copy_from_slice(&kind.0);
 }
 
-/// The shortest header of a box with a body of so many bytes.
+/// The shortest header of a box of this type with a body of so many bytes: 8 bytes where
+/// `body` + 8 is below 2^32, otherwise 16 bytes with size 1 and the size behind the type.
 pub fn head_of(kind: FourCc, body: u64) -> Head
     requires { body ≤ 2 ^ 62 }
     ensures len { (result.len ≡ 8) ⊎ (result.len ≡ 16) }

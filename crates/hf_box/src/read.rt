@@ -1,4 +1,4 @@
-//! Reading boxes.
+//! Bytes as a list of boxes (ISO/IEC 14496-12, Box).
 
 ghost use Rattle.std.specs.Prelude.{◌≡◌, ◌⊎◌, ◌+◌, ◌^◌, ◌<◌, ◌≤◌, length, IfOk, All};
 ghost use Rattle.hf_base.specs.Reading.{Reads, Gives, MatchOpen};
@@ -10,7 +10,8 @@ use hf_base::limits::BOXES;
 use hf_base::{OpenFault, ReadRefusal, be32, be64, four_at};
 use std::alloc::Global;
 
-/// The box with this header and size at the front, and the bytes after it.
+/// The box with a header of `head` bytes and this size at the front, and the bytes behind it;
+/// BadSize where the size is less than the header or passes the end.
 #[tactic(auto, unfolding(crate::specs::Framing::cut))]
 fn cut<'a>(
     bytes: &'a [u8],
@@ -37,7 +38,7 @@ fn cut<'a>(
     Ok((view, rest))
 }
 
-/// The box at the front, and the bytes after it.
+/// The box at the front, and the bytes behind it; Short, OpenSize or BadSize where there is none.
 #[tactic(auto, unfolding(crate::specs::Framing::box_at))]
 fn first<'a>(bytes: &'a [u8], at: u64, top: bool) -> Result<(BoxView<'a>, &'a [u8]), ReadRefusal>
     ensures exact { Reads (λ x. (box_of x.0, x.1.now)) result (box_at top at bytes.now) }
@@ -63,7 +64,7 @@ fn first<'a>(bytes: &'a [u8], at: u64, top: bool) -> Result<(BoxView<'a>, &'a [u
     cut(bytes, 16, be64(bytes, 8), at)
 }
 
-/// The same, from left to right.
+/// Takes boxes from the front until no byte is left, or one is refused.
 fn frames_in<'a>(
     alloc: Global,
     bytes: &'a [u8],
@@ -88,7 +89,13 @@ fn frames_in<'a>(
     Ok(boxes)
 }
 
-/// The boxes that the bytes are, with places from `origin` on.
+/// The boxes that the bytes are, one behind the other, with places counted from `origin`, in
+/// bytes. `top` says that they are the boxes of a file: there, and only there, the last one may
+/// have size 0 and reach the end (ISO/IEC 14496-12, Box).
+///
+/// It refuses the first place at which no box can stand: TooManyBoxes behind `BOXES` boxes, which
+/// is this project's own limit, otherwise Short for a header that is cut off, OpenSize for size 0
+/// where `top` is false, and BadSize for a size that is less than its header or passes the end.
 pub fn read_boxes<'a>(
     alloc: Global,
     bytes: &'a [u8],
@@ -100,6 +107,7 @@ pub fn read_boxes<'a>(
     ensures found { MatchOpen result (λ v. IsBoxes bytes.now origin top (boxes_of v.items) × (length v.items ≤ BOXES)) (λ fault. FrameFault bytes.now origin top fault) }
     // Each of them ends within the bytes.
     ensures within { IfOk result (λ v. All (λ b. end_of (box_of b) ≤ origin + length bytes.now) v.items) }
+    // The same, as framing from left to right computes it.
     ensures exact { Gives (λ v. boxes_of v.items) result (frames top origin bytes.now) }
 {
     frames_in(alloc, bytes, origin, top)

@@ -1,4 +1,4 @@
-//! The rows of a file.
+//! The rows of a file: its boxes, and the boxes in its `meta`.
 
 ghost use Rattle.std.specs.Prelude.{◌≡◌, ◌≢◌, ◌+◌, ◌^◌, ◌<◌, ◌≤◌, ◌++◌, length, map, take, drop, All, IfOk, OnOk, OnErr, slice_get, Some};
 ghost use Rattle.std.specs.List.{AllByRecursion};
@@ -12,7 +12,7 @@ use hf_base::kinds::META;
 use hf_base::{NoMemory, OpenFault, ReadRefusal};
 use std::alloc::Global;
 
-/// How many boxes stand before the first `meta`; all of them where there is none.
+/// The index of the first `meta`, from 0; the number of boxes where there is none.
 fn meta_place(boxes: &[BoxView<'_>]) -> usize
     ensures bound { result ≤ length boxes.now }
     ensures before { AllByRecursion IsNotMeta (take result (boxes_of boxes.now)) }
@@ -26,7 +26,7 @@ fn meta_place(boxes: &[BoxView<'_>]) -> usize
     boxes.len()
 }
 
-/// Adds the rows of these boxes.
+/// Appends the rows of these boxes.
 fn push_rows(rows: &mut Vec<BoxRow>, depth: u8, boxes: &[BoxView<'_>]) -> Result<(), NoMemory>
     requires { All (λ b. end_of (box_of b) < 2 ^ 64) boxes.now }
     ensures { OnOk result (rows.new.items ≡ rows.old.items ++ map (row_of depth) (boxes_of boxes.now)) }
@@ -42,7 +42,8 @@ fn push_rows(rows: &mut Vec<BoxRow>, depth: u8, boxes: &[BoxView<'_>]) -> Result
     Ok(())
 }
 
-/// The boxes of a `meta`.
+/// The boxes in a `meta`, behind its version and flags; BadRecord where these four bytes are not
+/// there (MetaBox of ISO/IEC 14496-12).
 fn children_of<'a>(alloc: Global, m: &BoxView<'a>) -> Result<Vec<BoxView<'a>>, OpenFault>
     requires place { end_of (box_of m.now) < 2 ^ 64 }
     requires kind { m.now.kind ≡ META }
@@ -58,7 +59,7 @@ fn children_of<'a>(alloc: Global, m: &BoxView<'a>) -> Result<Vec<BoxView<'a>>, O
     read_boxes(alloc, &m.body[4..], m.at + u64::from(m.head) + 4, false)
 }
 
-/// The rows of boxes of which the one at `place` is the first `meta`, with its own boxes.
+/// The rows of these boxes, with those of the children behind the box at `place`.
 fn rows_with(
     alloc: Global,
     boxes: &[BoxView<'_>],
@@ -70,21 +71,21 @@ fn rows_with(
     requires children_within { All (λ b. end_of (box_of b) < 2 ^ 64) children.now }
     ensures { IfOk result (λ rows. rows.items ≡ (map (row_of 0) (boxes_of (take (place + 1) boxes.now)) ++ map (row_of 1) (boxes_of children.now)) ++ map (row_of 0) (boxes_of (drop (place + 1) boxes.now))) }
 {
-    let mut rows = Vec::new(alloc);
+    let mut rows = Vec::with_capacity(alloc, boxes.len() + children.len())?;
     push_rows(&mut rows, 0, &boxes[..place + 1])?;
     push_rows(&mut rows, 1, children)?;
     push_rows(&mut rows, 0, &boxes[place + 1..])?;
     Ok(rows)
 }
 
-/// The rows of the file: its boxes, and behind the first `meta` the boxes in it.
+/// The rows of the file, by the relation alone.
 fn rows_in(alloc: Global, file: &[u8]) -> Result<Vec<BoxRow>, OpenFault>
     ensures { MatchOpen result (λ v. IsWalk file.now v.items) (λ fault. IsWalkFault file.now fault) }
 {
     let boxes = read_boxes(alloc, file, 0, true)?;
     let place = meta_place(&boxes);
     if place == boxes.len() {
-        let mut rows = Vec::new(alloc);
+        let mut rows = Vec::with_capacity(alloc, boxes.len())?;
         push_rows(&mut rows, 0, &boxes)?;
         return Ok(rows);
     }
@@ -92,9 +93,15 @@ fn rows_in(alloc: Global, file: &[u8]) -> Result<Vec<BoxRow>, OpenFault>
     Ok(rows_with(alloc, &boxes, place, &children)?)
 }
 
-/// The rows of the file: its boxes, and behind the first `meta` the boxes in it.
+/// The rows of the file: one a box at depth 0, and behind the first `meta` one a box in it at
+/// depth 1. Which boxes have rows is this project's own rule; a second `meta` has its row alone.
+///
+/// It refuses what `read_boxes` refuses of the file, then BadRecord where the first `meta` has
+/// fewer than four bytes behind its header, then what `read_boxes` refuses of the boxes in it.
 pub fn walk(alloc: Global, file: &[u8]) -> Result<Vec<BoxRow>, OpenFault>
+    // Unless memory runs out, the rows of the file, or its first fault.
     ensures found { MatchOpen result (λ v. IsWalk file.now v.items) (λ fault. IsWalkFault file.now fault) }
+    // The same, as walking from left to right computes it.
     ensures exact { Gives (λ v. v.items) result (walk_at file.now) }
 {
     rows_in(alloc, file)
