@@ -1,0 +1,122 @@
+//! The desk over the system: files by name, a file that is made, and standard output.
+
+ghost use Rattle.heif.specs.Real.{real_outside, real_sound};
+ghost use Rattle.std.specs.Prelude.{◌≡◌, ◌≤◌, None, false, length, IfOk};
+ghost use Rattle.hf_desk.specs.Mark.{Untold};
+
+use hf_desk::{Desk, Failed};
+use std::fs::File;
+use std::io;
+use std::io::Write;
+use std::os::unix::fs::FileExt;
+
+/// A file that is open for reading.
+#[derive(Drop)]
+struct Opened {
+    name: String,
+    file: File,
+}
+
+/// The desk of the program. It tells no content: what a file, a terminal or a disk gives and takes
+/// is trusted.
+#[derive(Drop)]
+pub struct RealDesk<'a> {
+    rt: &'a HostRuntime,
+    /// The file that was read last.
+    last: Option<Opened>,
+    made: Option<File>,
+    read_faults: u64,
+    write_faults: u64,
+}
+
+impl<'a> RealDesk<'a> {
+    /// Nothing is made or said.
+    pub fn new(rt: &'a HostRuntime) -> RealDesk<'a>
+        ensures { real_outside result ≡ record {
+          files = None;
+          made = None;
+          said = None;
+          mark = Untold;
+          creating = false;
+          read_faults = 0;
+          write_faults = 0;
+          steady = false;
+        } }
+    {
+        RealDesk {
+            rt,
+            last: None,
+            made: None,
+            read_faults: 0,
+            write_faults: 0,
+        }
+    }
+
+    /// Reads from a file, and keeps it open for the next read.
+    fn read_open(&mut self, name: &str, at: u64, buf: &mut [u8]) -> io::Result<usize>
+        ensures bound { IfOk result (λ n. n ≤ length buf.old) }
+        ensures same { real_outside self.new ≡ real_outside self.old }
+    {
+        if let Some(last) = &self.last {
+            if last.name.as_str() == name {
+                return last.file.read_at(buf, at);
+            }
+        }
+        let file = File::open(self.rt, name)?;
+        let count = file.read_at(buf, at)?;
+        // Where memory is refused, the next read opens it anew.
+        if let Ok(name) = String::from_str(self.rt.alloc(), name) {
+            self.last = Some(Opened { name, file });
+        }
+        Ok(count)
+    }
+}
+
+impl Desk for RealDesk<'_> {
+    ghost outside = { real_outside };
+
+    ghost sound = { real_sound };
+
+    fn read_at(&mut self, name: &str, at: u64, buf: &mut [u8]) -> Result<usize, Failed> {
+        if let Ok(count) = self.read_open(name, at, buf) {
+            return Ok(count);
+        }
+        self.read_faults = self.read_faults.saturating_add(1);
+        Err(Failed)
+    }
+
+    fn create(&mut self, name: &str) -> Result<(), Failed> {
+        match File::create_new(self.rt, name) {
+            Ok(file) => {
+                self.made = Some(file);
+                Ok(())
+            }
+            Err(_) => {
+                self.write_faults = self.write_faults.saturating_add(1);
+                Err(Failed)
+            }
+        }
+    }
+
+    fn put(&mut self, piece: &[u8]) -> Result<usize, Failed> {
+        if let Some(file) = &mut self.made {
+            if let Ok(count) = file.write(piece) {
+                if count > 0 || piece.is_empty() {
+                    return Ok(count);
+                }
+            }
+        }
+        self.write_faults = self.write_faults.saturating_add(1);
+        Err(Failed)
+    }
+
+    fn say(&mut self, piece: &[u8]) -> Result<usize, Failed> {
+        if let Ok(count) = io::writer(self.rt).write(piece) {
+            if count > 0 || piece.is_empty() {
+                return Ok(count);
+            }
+        }
+        self.write_faults = self.write_faults.saturating_add(1);
+        Err(Failed)
+    }
+}
