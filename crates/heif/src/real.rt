@@ -1,7 +1,8 @@
 //! The desk over the system: files by name, a file that is made, and standard output.
 
 ghost use Rattle.heif.specs.Real.{real_outside, real_sound};
-ghost use Rattle.std.specs.Prelude.{◌≡◌, ◌≤◌, None, false, length, IfOk};
+ghost use Rattle.std.specs.Prelude.{◌≡◌, ◌<◌, ◌≤◌, None, false, length, IfOk, IfSome};
+ghost use Rattle.hf_desk.specs.Calls.{FailsOnly, Rose};
 ghost use Rattle.hf_desk.specs.Mark.{Untold};
 
 use hf_desk::{Desk, Failed};
@@ -9,6 +10,19 @@ use std::fs::File;
 use std::io;
 use std::io::Write;
 use std::os::unix::fs::FileExt;
+
+/// How many bytes of a piece a write took. One that takes nothing of a piece that has something
+/// failed too.
+fn taken(written: io::Result<usize>, piece: &[u8]) -> Option<usize>
+    requires { IfOk written (λ n. n ≤ length piece.now) }
+    ensures bound { IfSome result (λ n. n ≤ length piece.now) }
+    ensures some { IfSome result (λ n. 0 < length piece.now → 0 < n) }
+{
+    match written {
+        Ok(count) if count > 0 || piece.is_empty() => Some(count),
+        _ => None,
+    }
+}
 
 /// A file that is open for reading.
 #[derive(Drop)]
@@ -52,6 +66,15 @@ impl<'a> RealDesk<'a> {
         }
     }
 
+    /// Counts a write that failed.
+    fn write_failed(&mut self) -> Failed
+        ensures only { FailsOnly (real_outside self.old) (real_outside self.new) }
+        ensures rose { Rose self.old.write_faults self.new.write_faults }
+    {
+        self.write_faults = self.write_faults.saturating_add(1);
+        Failed
+    }
+
     /// Reads from a file, and keeps it open for the next read.
     fn read_open(&mut self, name: &str, at: u64, buf: &mut [u8]) -> io::Result<usize>
         ensures bound { IfOk result (λ n. n ≤ length buf.old) }
@@ -91,32 +114,23 @@ impl Desk for RealDesk<'_> {
                 self.made = Some(file);
                 Ok(())
             }
-            Err(_) => {
-                self.write_faults = self.write_faults.saturating_add(1);
-                Err(Failed)
-            }
+            Err(_) => Err(self.write_failed()),
         }
     }
 
     fn put(&mut self, piece: &[u8]) -> Result<usize, Failed> {
         if let Some(file) = &mut self.made {
-            if let Ok(count) = file.write(piece) {
-                if count > 0 || piece.is_empty() {
-                    return Ok(count);
-                }
-            }
-        }
-        self.write_faults = self.write_faults.saturating_add(1);
-        Err(Failed)
-    }
-
-    fn say(&mut self, piece: &[u8]) -> Result<usize, Failed> {
-        if let Ok(count) = io::writer(self.rt).write(piece) {
-            if count > 0 || piece.is_empty() {
+            if let Some(count) = taken(file.write(piece), piece) {
                 return Ok(count);
             }
         }
-        self.write_faults = self.write_faults.saturating_add(1);
-        Err(Failed)
+        Err(self.write_failed())
+    }
+
+    fn say(&mut self, piece: &[u8]) -> Result<usize, Failed> {
+        match taken(io::writer(self.rt).write(piece), piece) {
+            Some(count) => Ok(count),
+            None => Err(self.write_failed()),
+        }
     }
 }

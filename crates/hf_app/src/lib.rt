@@ -2,6 +2,7 @@
 #![tactic(auto)]
 
 mod boxes;
+pub mod laws;
 mod line;
 mod outcome;
 mod parts;
@@ -13,3 +14,6 @@ pub use line::line_of;
 pub use outcome::{Outcome, status};
 pub use rows::say_rows;
 pub use top::run;
+
+#[cfg(test)]
+mod tests;
