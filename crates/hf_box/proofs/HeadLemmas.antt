@@ -1,13 +1,13 @@
 -- The header of a box that is written.
-use Rattle.std.proofs.Common.{◌≡◌, ℕ, ◌+◌, ◌^◌, ◌<◌, ◌≤◌, true, false, List, ◌++◌, length, take, drop, ltb, refl, sym, ap, ◌∙◌, append_assoc, arith, inl, inr}
+use Rattle.std.proofs.Common.{◌≡◌, ℕ, ◌+◌, ◌^◌, ◌<◌, ◌≤◌, Bool, true, false, ◌&&◌, List, ◌∷◌, ◌++◌, length, take, drop, ltb, refl, sym, ap, ◌∙◌, append_assoc, arith, inl, inr}
 use Rattle.std.proofs.lemmas.Bool.{lt-ltb, le-ltb, cases_lt}
 use Rattle.std.proofs.lemmas.List.{take_at, drop_at, drop-drop, length-append}
 use borrow.Rule.Slice.PartMut.{put_mid}
 use Rattle.hf_base.specs.Number.{num}
 use Rattle.hf_base.specs.NumberLaws.{length-num}
 use Rattle.hf_base.specs.declared.four.FourCc.{FourCc}
-use Rattle.hf_box.specs.Head.{box_len, box_head, box}
-use Rattle.hf_box.specs.Boxes.{compact, long}
+use Rattle.hf_box.specs.Head.{box_len, box_head, box, head_len, written_at}
+use Rattle.hf_box.specs.Boxes.{BoxAt, compact, long, is_nil, IsSpelling, IsBoxes}
 use Rattle.hf_box.proofs.Spelled.{two_parts, three_parts}
 
 pub front_is : (x s k out : List ℕ) → x ≡ s ++ drop 4 out → length s ≡ 4 → put_mid 4 4 x k ≡ (s ++ k) ++ drop 8 out
@@ -68,3 +68,24 @@ length-box kind body four = elim (cases_lt (8 + length body) (256 ^ 4)) [
   | inl lt ↦ ap length (box-compact kind body lt) ∙ two_parts (num (8 + length body) 4) kind.0 body (length-num 4 (8 + length body)) four ∙ sym (box_len-compact (length body) lt)
   | inr le ↦ ap length (box-long kind body le) ∙ three_parts (num 1 4) kind.0 (num (16 + length body) 8) body (length-num 4 1) four (length-num 8 (16 + length body)) ∙ sym (box_len-long (length body) le)
 ]
+
+-- ---- a box that is written is read
+
+head_len-compact : (body : ℕ) → 8 + body < 256 ^ 4 → head_len body ≡ 8
+unfolding head_len
+head_len-compact body lt = let t : ltb (8 + body) (256 ^ 4) ≡ true = lt-ltb _ _ lt in rw t refl
+
+head_len-long : (body : ℕ) → 256 ^ 4 ≤ 8 + body → head_len body ≡ 16
+unfolding head_len
+head_len-long body le = let t : ltb (8 + body) (256 ^ 4) ≡ false = le-ltb _ _ le in rw t refl
+
+pub box-spells : (last : Bool) (place : ℕ) (kind : FourCc) (body : List ℕ) → 16 + length body < 256 ^ 8 → IsSpelling last (written_at place kind body) (box kind body)
+box-spells last place kind body fits = elim (cases_lt (8 + length body) (256 ^ 4)) [
+  | inl lt ↦ inl (head_len-compact (length body) lt, lt, box-compact kind body lt)
+  | inr le ↦ inr (inl (head_len-long (length body) le, fits, box-long kind body le))
+]
+
+pub boxes-written : (bytes : List ℕ) (origin : ℕ) (top : Bool) (kind : FourCc) (body rest : List ℕ) (others : List BoxAt) → bytes ≡ box kind body ++ rest → length kind.0 ≡ 4 → 16 + length body < 256 ^ 8
+    → IsBoxes rest (origin + length (box kind body)) top others → IsBoxes bytes origin top (written_at origin kind body ∷ others)
+boxes-written bytes origin top kind body rest others whole four fits more =
+    (box kind body, rest, whole, refl, four, box-spells (top && is_nil others) origin kind body fits, more)

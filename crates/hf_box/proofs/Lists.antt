@@ -53,6 +53,9 @@ box_first top at bytes x others t last more =
     at_end true last b text e h = subst (λ (o : Bool). IsSpelling o b text) (sym e) h
     at_end false last b text e h = h
 
+last_if_none : (n : ℕ) (top : Bool) (at : ℕ) (rest : List ℕ) (others : List BoxAt) → frames_within n top at rest ≡ Ok others → rest ≡ [] → is_nil others ≡ true
+last_if_none n top at rest others e none = nil_is others (sym (frames_nil n top at rest none) ∙ e)
+
 more_boxes : (n : ℕ) (top : Bool) (at : ℕ) (bytes : List ℕ) (x : BoxAt × List ℕ) (others boxes : List BoxAt) → fine (x.0 ∷ others) ≡ fine boxes → Takes top at bytes x → (x.1 ≡ [] → is_nil others ≡ true)
     → IsBoxes x.1 (end_of x.0) top others → length others ≤ n → IsBoxes bytes at top boxes × (length boxes ≤ suc n)
 more_boxes n top at bytes x others boxes e t last more room =
@@ -69,8 +72,7 @@ frames_spell (suc n) top at (x ∷ xs) boxes fits e =
     let b = bind_ok (frames_within n top (end_of a.0.0) a.0.1) (λ others. Ok (a.0.0 ∷ others)) boxes a.2 in
     let t = box_takes top at bytes a.0 fits a.1 in
     let more = frames_spell n top (end_of a.0.0) a.0.1 b.0 (IsBytes-rest bytes t.text a.0.1 t.whole fits) b.1 in
-    let last : a.0.1 ≡ [] → is_nil b.0 ≡ true = λ none. nil_is b.0 (sym (frames_nil n top (end_of a.0.0) a.0.1 none) ∙ b.1) in
-    more_boxes n top at bytes a.0 b.0 boxes b.2 t last more.0 more.1
+    more_boxes n top at bytes a.0 b.0 boxes b.2 t (last_if_none n top (end_of a.0.0) a.0.1 b.0 b.1) more.0 more.1
 
 -- behind a box that reaches the end nothing comes
 ends_all : (top : Bool) (others : List BoxAt) (rest : List ℕ) (place : ℕ) → (top && is_nil others) ≡ true → IsBoxes rest place top others → (top ≡ true) × (rest ≡ [])

@@ -1,10 +1,11 @@
 -- Types and bytes as they are printed in texts on the format.
-use Rattle.std.specs.Prelude.{ℕ, ◌+◌, ◌-◌, ◌*◌, List, [], ◌∷◌, nat_lt, not, ◌==◌, filter, if◌then◌else◌}
+use Prim.Native.String.{String as Text}
+use Rattle.std.specs.Prelude.{ℕ, ◌+◌, ◌-◌, ◌*◌, List, [], ◌∷◌, nat_lt, not, ◌==◌, filter, if◌then◌else◌, codes}
 use Rattle.hf_base.specs.declared.four.FourCc.{FourCc}
 
 -- the type that these four characters spell
-abbrev pub four : List ℕ → FourCc
-four text = record { 0 = text }
+abbrev pub four : Text → FourCc
+four text = record { 0 = codes text }
 
 -- the value of one hexadecimal digit, 0 to 9 or a to f
 abbrev pub digit : ℕ → ℕ
@@ -16,5 +17,5 @@ pairs (c ∷ []) = []
 pairs (c ∷ d ∷ cs) = (16 * digit c + digit d) ∷ pairs cs
 
 -- the bytes of a hexadecimal text, two digits a byte; blanks count for nothing
-abbrev pub hex_of : List ℕ → List ℕ
-hex_of text = pairs (filter (λ c. not (c == 32)) text)
+abbrev pub hex_of : Text → List ℕ
+hex_of text = pairs (filter (λ c. not (c == 32)) (codes text))

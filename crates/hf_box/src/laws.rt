@@ -1,6 +1,6 @@
 //! Laws of the definitions. Each is the contract of a function that does nothing.
 
-ghost use Rattle.std.specs.Prelude.{◌≡◌, ◌↔◌, ◌+◌, ◌^◌, ◌<◌, ◌≤◌, ℕ, Bool, List, length, Ok, Err};
+ghost use Rattle.std.specs.Prelude.{◌≡◌, ◌↔◌, ◌+◌, ◌^◌, ◌<◌, ◌≤◌, ◌++◌, ◌∷◌, ℕ, Bool, List, length, Ok, Err};
 ghost use Rattle.hf_base.specs.Number.{IsBytes};
 ghost use Rattle.hf_base.specs.declared.fault.ReadRefusal.{ReadRefusal};
 ghost use Rattle.hf_base.specs.declared.limits.TheConstants.{BOXES};
@@ -8,7 +8,7 @@ ghost use Rattle.hf_base.specs.declared.four.FourCc.{FourCc};
 ghost use Rattle.hf_box.specs.declared.view.BoxRow.{BoxRow};
 ghost use Rattle.hf_box.specs.Boxes.{BoxAt, IsBoxes, FrameFault, compact, long};
 ghost use Rattle.hf_box.specs.Framing.{frames};
-ghost use Rattle.hf_box.specs.Head.{box, box_len};
+ghost use Rattle.hf_box.specs.Head.{box, box_len, written_at};
 ghost use Rattle.hf_box.specs.Walk.{IsWalk, IsWalkFault, walk_at};
 ghost use Rattle.hf_box.specs.Worked.{worked_file, worked_rows};
 
@@ -54,6 +54,12 @@ pub fn box_is_the_shortest_spelling()
     ensures compact { (kind : FourCc) (body : List ℕ) → 8 + length body < 256 ^ 4 → box kind body ≡ compact kind body }
     ensures long { (kind : FourCc) (body : List ℕ) → 256 ^ 4 ≤ 8 + length body → box kind body ≡ long kind body }
     ensures length { (kind : FourCc) (body : List ℕ) → length kind.0 ≡ 4 → length (box kind body) ≡ box_len (length body) }
+{}
+
+/// A box as it is written, with the bytes of other boxes behind it, is that box and the others.
+pub fn written_box_is_a_box()
+    ensures { (origin : ℕ) (top : Bool) (kind : FourCc) (body rest : List ℕ) (others : List BoxAt) → length kind.0 ≡ 4 → 16 + length body < 256 ^ 8 →
+        IsBoxes rest (origin + length (box kind body)) top others → IsBoxes (box kind body ++ rest) origin top (written_at origin kind body ∷ others) }
 {}
 
 /// The worked file, of 193 bytes, has its eight rows.
