@@ -1,0 +1,71 @@
+use super::*;
+use std::test::Fail;
+
+#[test]
+fn a_file_is_read_up_to_the_limit(rt: HostRuntime) -> Result<(), Fail> {
+    let alloc = rt.alloc();
+    let mut desk = MemoryDesk::new(alloc);
+    desk.add("five", b"abcde")?;
+    desk.add("four", b"abcd")?;
+    assert_eq!(rt;
+        read_all(alloc, &mut desk, "five", 4).err(),
+        Some(ReadStop::TooLong)
+    );
+    let bytes = read_all(alloc, &mut desk, "four", 4)?;
+    assert_eq!(rt; bytes.as_slice(), b"abcd".as_slice());
+    Ok(())
+}
+
+#[test]
+fn the_second_read_fails(rt: HostRuntime) -> Result<(), Fail> {
+    let alloc = rt.alloc();
+    let mut desk = MemoryDesk::new(alloc);
+    desk.add("four", b"abcd")?;
+    desk.fail(2)?;
+    assert_eq!(rt;
+        read_all(alloc, &mut desk, "four", 4).err(),
+        Some(ReadStop::Fault)
+    );
+    let bytes = read_all(alloc, &mut desk, "four", 4)?;
+    assert_eq!(rt; bytes.as_slice(), b"abcd".as_slice());
+    Ok(())
+}
+
+#[test]
+fn a_piece_is_written_byte_by_byte(rt: HostRuntime) -> Result<(), Fail> {
+    let alloc = rt.alloc();
+    let mut desk = MemoryDesk::new(alloc);
+    desk.take_at_most(1);
+    let piece = [7u8; 100];
+    say_all(&mut desk, &piece)?;
+    assert_eq!(rt; desk.said(), piece.as_slice());
+    make_file(&mut desk, "new", &piece)?;
+    assert_eq!(rt; desk.made(), Some(piece.as_slice()));
+    Ok(())
+}
+
+#[test]
+fn a_name_gets_new_bytes(rt: HostRuntime) -> Result<(), Fail> {
+    let alloc = rt.alloc();
+    let mut desk = MemoryDesk::new(alloc);
+    desk.add("name", b"old")?;
+    desk.add("name", b"newer")?;
+    assert_eq!(rt; desk.file("name"), Some(b"newer".as_slice()));
+    assert_eq!(rt; desk.file("other"), None);
+    assert_eq!(rt; desk.made(), None);
+    Ok(())
+}
+
+#[test]
+fn bytes_are_counted(rt: HostRuntime) -> Result<(), Fail> {
+    let mut desk = CountingDesk::new();
+    desk.add("a", b"abc");
+    let mut buf = [0u8; 2];
+    assert_eq!(rt; desk.read_at("a", 2, &mut buf), Ok(1));
+    assert_eq!(rt; buf, [b'c', 0]);
+    make_file(&mut desk, "b", b"12345")?;
+    say_all(&mut desk, b"123")?;
+    assert_eq!(rt; desk.made_len(), 5);
+    assert_eq!(rt; desk.said_len(), 3);
+    Ok(())
+}
