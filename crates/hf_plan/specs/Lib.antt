@@ -1,0 +1,4 @@
+pub mod Canon
+pub mod Hex
+pub mod Lay
+pub mod WorkedFiles

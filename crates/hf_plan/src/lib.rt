@@ -1,0 +1,4 @@
+//! The plan of a canonical file: what the file is.
+#![tactic(auto)]
+
+pub mod worked;

@@ -1,0 +1,7 @@
+pub mod Derived
+pub mod Layout
+pub mod Lists
+pub mod Store
+pub mod Table
+pub mod Valid
+pub mod WorkedStores

@@ -1,0 +1,4 @@
+//! The store of items: what it is, and which stores are valid.
+#![tactic(auto)]
+
+pub mod worked;
