@@ -1,1 +1,4 @@
+pub mod Bounds
 pub mod CanonicalFiles
+pub mod Lengths
+pub mod OneFile

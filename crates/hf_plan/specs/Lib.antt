@@ -1,4 +1,6 @@
 pub mod Canon
-pub mod Hex
+pub mod Laws
 pub mod Lay
 pub mod WorkedFiles
+pub mod WorkedPhotograph
+pub mod WorkedTables

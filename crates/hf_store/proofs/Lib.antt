@@ -1,3 +1,5 @@
+pub mod BoxLengths
 pub mod Ends
 pub mod Finds
+pub mod Lengths
 pub mod ValidStores

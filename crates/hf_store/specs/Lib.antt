@@ -1,4 +1,5 @@
 pub mod Derived
+pub mod Hex
 pub mod Layout
 pub mod Lists
 pub mod Store
