@@ -2,4 +2,5 @@ pub mod BoxLengths
 pub mod Ends
 pub mod Finds
 pub mod Lengths
+pub mod RefusedStores
 pub mod ValidStores

@@ -1,3 +1,4 @@
+pub mod BadStores
 pub mod Derived
 pub mod Hex
 pub mod Layout

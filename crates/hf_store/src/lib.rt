@@ -1,4 +1,5 @@
 //! The store of items: what it is, and which stores are valid.
 #![tactic(auto)]
 
+pub mod broken;
 pub mod worked;
