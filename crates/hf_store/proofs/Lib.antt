@@ -3,4 +3,5 @@ pub mod Ends
 pub mod Finds
 pub mod Lengths
 pub mod RefusedStores
+pub mod Tables
 pub mod ValidStores

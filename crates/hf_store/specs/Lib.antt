@@ -3,6 +3,7 @@ pub mod Derived
 pub mod Hex
 pub mod Layout
 pub mod Lists
+pub mod Picks
 pub mod Store
 pub mod Table
 pub mod Valid

@@ -2,4 +2,5 @@
 #![tactic(auto)]
 
 pub mod broken;
+pub mod laws;
 pub mod worked;
