@@ -1,6 +1,7 @@
 pub mod Canon
 pub mod Laws
 pub mod Lay
+pub mod Places
 pub mod WorkedFiles
 pub mod WorkedPhotograph
 pub mod WorkedTables

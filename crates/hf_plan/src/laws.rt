@@ -1,6 +1,7 @@
 //! Laws of the canonical file. Each is the contract of a function that does nothing.
 
 ghost use Rattle.hf_plan.specs.Laws.{HasCanon, OneCanon, NarrowIsAsLong, NarrowIsShorter};
+ghost use Rattle.hf_plan.specs.Places.{BytesStand};
 
 /// Each valid store has one canonical file, and only one.
 pub fn one_canonical_file()
@@ -13,4 +14,10 @@ pub fn one_canonical_file()
 pub fn narrow_layout_is_shorter()
     ensures shorter { NarrowIsShorter }
     ensures as_long { NarrowIsAsLong }
+{}
+
+/// The bytes of each item stand at the offset that is written for it: in the file, or in the body
+/// of `idat`.
+pub fn bytes_stand_at_their_offsets()
+    ensures { BytesStand }
 {}

@@ -11,8 +11,8 @@ without_mif1 = record {
   brands = record { major = four "heic"; minor = 0; compatible = codes "xmif1hei" };
   primary = 1;
   items =
-    plain 1 "hvc1" (hex "aabbcc")
-    ∷ [];
+      plain 1 "hvc1" (hex "aabbcc")
+      ∷ [];
   groups = [];
 }
 
@@ -22,8 +22,8 @@ mif1_across_brands = record {
   brands = record { major = four "heic"; minor = 0; compatible = codes "xxmif1yy" };
   primary = 1;
   items =
-    plain 1 "hvc1" (hex "aabbcc")
-    ∷ [];
+      plain 1 "hvc1" (hex "aabbcc")
+      ∷ [];
   groups = [];
 }
 
@@ -33,8 +33,8 @@ brands_of_five_bytes = record {
   brands = record { major = four "mif1"; minor = 0; compatible = codes "heicx" };
   primary = 1;
   items =
-    plain 1 "hvc1" (hex "aabbcc")
-    ∷ [];
+      plain 1 "hvc1" (hex "aabbcc")
+      ∷ [];
   groups = [];
 }
 
@@ -44,8 +44,8 @@ zero_in_name = record {
   brands = heic;
   primary = 1;
   items =
-    record (plain 1 "hvc1" []) { name = hex "610062" }
-    ∷ [];
+      record (plain 1 "hvc1" []) { name = hex "610062" }
+      ∷ [];
   groups = [];
 }
 
@@ -55,8 +55,8 @@ content_without_mime = record {
   brands = heic;
   primary = 1;
   items =
-    record (plain 1 "hvc1" []) { content = codes "x" }
-    ∷ [];
+      record (plain 1 "hvc1" []) { content = codes "x" }
+      ∷ [];
   groups = [];
 }
 
@@ -66,8 +66,8 @@ uri_without_uri = record {
   brands = heic;
   primary = 1;
   items =
-    record (plain 1 "hvc1" []) { uri = codes "x" }
-    ∷ [];
+      record (plain 1 "hvc1" []) { uri = codes "x" }
+      ∷ [];
   groups = [];
 }
 
@@ -77,8 +77,8 @@ references_fall = record {
   brands = heic;
   primary = 1;
   items =
-    record (plain 1 "hvc1" []) { refs = references "thmb" (1 ∷ []) ∷ references "cdsc" (1 ∷ []) ∷ [] }
-    ∷ [];
+      record (plain 1 "hvc1" []) { refs = references "thmb" (1 ∷ []) ∷ references "cdsc" (1 ∷ []) ∷ [] }
+      ∷ [];
   groups = [];
 }
 
@@ -88,8 +88,8 @@ references_twice = record {
   brands = heic;
   primary = 1;
   items =
-    record (plain 1 "hvc1" []) { refs = references "cdsc" (1 ∷ []) ∷ references "cdsc" (1 ∷ []) ∷ [] }
-    ∷ [];
+      record (plain 1 "hvc1" []) { refs = references "cdsc" (1 ∷ []) ∷ references "cdsc" (1 ∷ []) ∷ [] }
+      ∷ [];
   groups = [];
 }
 
@@ -99,8 +99,8 @@ iloc_reference = record {
   brands = heic;
   primary = 1;
   items =
-    record (plain 1 "hvc1" []) { refs = references "iloc" (1 ∷ []) ∷ [] }
-    ∷ [];
+      record (plain 1 "hvc1" []) { refs = references "iloc" (1 ∷ []) ∷ [] }
+      ∷ [];
   groups = [];
 }
 
@@ -110,8 +110,8 @@ dangling_reference = record {
   brands = heic;
   primary = 1;
   items =
-    record (plain 1 "hvc1" []) { refs = references "cdsc" (2 ∷ []) ∷ [] }
-    ∷ [];
+      record (plain 1 "hvc1" []) { refs = references "cdsc" (2 ∷ []) ∷ [] }
+      ∷ [];
   groups = [];
 }
 
@@ -121,8 +121,8 @@ identity_of_none = record {
   brands = heic;
   primary = 1;
   items =
-    plain 1 "iden" []
-    ∷ [];
+      plain 1 "iden" []
+      ∷ [];
   groups = [];
 }
 
@@ -132,9 +132,9 @@ grid_of_two_with_one = record {
   brands = heic;
   primary = 1;
   items =
-    plain 1 "hvc1" []
-    ∷ record (plain 2 "grid" (hex "00000001 00080004")) { refs = references "dimg" (1 ∷ []) ∷ [] }
-    ∷ [];
+      plain 1 "hvc1" []
+      ∷ record (plain 2 "grid" (hex "00000001 00080004")) { refs = references "dimg" (1 ∷ []) ∷ [] }
+      ∷ [];
   groups = [];
 }
 
@@ -144,9 +144,9 @@ grid_cut_short = record {
   brands = heic;
   primary = 1;
   items =
-    plain 1 "hvc1" []
-    ∷ record (plain 2 "grid" (hex "00000000 000800")) { refs = references "dimg" (1 ∷ []) ∷ [] }
-    ∷ [];
+      plain 1 "hvc1" []
+      ∷ record (plain 2 "grid" (hex "00000000 000800")) { refs = references "dimg" (1 ∷ []) ∷ [] }
+      ∷ [];
   groups = [];
 }
 
@@ -156,9 +156,9 @@ grid_of_long_sides_cut_short = record {
   brands = heic;
   primary = 1;
   items =
-    plain 1 "hvc1" []
-    ∷ record (plain 2 "grid" (hex "00010000 00080004")) { refs = references "dimg" (1 ∷ []) ∷ [] }
-    ∷ [];
+      plain 1 "hvc1" []
+      ∷ record (plain 2 "grid" (hex "00010000 00080004")) { refs = references "dimg" (1 ∷ []) ∷ [] }
+      ∷ [];
   groups = [];
 }
 
@@ -168,9 +168,9 @@ overlay_cut_short = record {
   brands = heic;
   primary = 1;
   items =
-    plain 1 "hvc1" []
-    ∷ record (plain 2 "iovl" (replicate 17 0x00)) { refs = references "dimg" (1 ∷ []) ∷ [] }
-    ∷ [];
+      plain 1 "hvc1" []
+      ∷ record (plain 2 "iovl" (replicate 17 0x00)) { refs = references "dimg" (1 ∷ []) ∷ [] }
+      ∷ [];
   groups = [];
 }
 
@@ -180,9 +180,9 @@ cycle = record {
   brands = heic;
   primary = 1;
   items =
-    record (plain 1 "iden" []) { refs = references "dimg" (2 ∷ []) ∷ [] }
-    ∷ record (plain 2 "iden" []) { refs = references "dimg" (1 ∷ []) ∷ [] }
-    ∷ [];
+      record (plain 1 "iden" []) { refs = references "dimg" (2 ∷ []) ∷ [] }
+      ∷ record (plain 2 "iden" []) { refs = references "dimg" (1 ∷ []) ∷ [] }
+      ∷ [];
   groups = [];
 }
 
@@ -192,12 +192,12 @@ groups_of_one_id = record {
   brands = heic;
   primary = 1;
   items =
-    plain 1 "hvc1" (hex "aabbcc")
-    ∷ [];
+      plain 1 "hvc1" (hex "aabbcc")
+      ∷ [];
   groups =
-    record { kind = four "altr"; version = 0; flags = 0; id = 5; entities = 1 ∷ []; tail = [] }
-    ∷ record { kind = four "altr"; version = 0; flags = 0; id = 5; entities = 1 ∷ []; tail = [] }
-    ∷ [];
+      record { kind = four "altr"; version = 0; flags = 0; id = 5; entities = 1 ∷ []; tail = [] }
+      ∷ record { kind = four "altr"; version = 0; flags = 0; id = 5; entities = 1 ∷ []; tail = [] }
+      ∷ [];
 }
 
 -- a group without entities
@@ -206,11 +206,11 @@ group_of_none = record {
   brands = heic;
   primary = 1;
   items =
-    plain 1 "hvc1" (hex "aabbcc")
-    ∷ [];
+      plain 1 "hvc1" (hex "aabbcc")
+      ∷ [];
   groups =
-    record { kind = four "altr"; version = 0; flags = 0; id = 5; entities = []; tail = [] }
-    ∷ [];
+      record { kind = four "altr"; version = 0; flags = 0; id = 5; entities = []; tail = [] }
+      ∷ [];
 }
 
 -- an item with id 0
@@ -219,8 +219,8 @@ zero_id = record {
   brands = heic;
   primary = 1;
   items =
-    plain 0 "hvc1" []
-    ∷ [];
+      plain 0 "hvc1" []
+      ∷ [];
   groups = [];
 }
 
