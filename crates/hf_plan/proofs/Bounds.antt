@@ -1,7 +1,7 @@
 -- The numbers of a valid store fit the widths that they are written in.
-use Rattle.std.proofs.Common.{◌≡◌, ℕ, zero, suc, ◌+◌, ◌-◌, ◌*◌, ◌^◌, ◌<◌, ◌≤◌, Bool, true, false, not, ◌&&◌, ◌||◌, cond, leb, ltb, List, [], ◌∷◌, ◌++◌, length, length-append, map, refl, sym, ap, ◌∙◌, arith, ◌⊎◌, inl, inr, subst}
+use Rattle.std.proofs.Common.{◌≡◌, ℕ, suc, ◌+◌, ◌*◌, ◌^◌, ◌<◌, ◌≤◌, Bool, true, false, not, ◌&&◌, cond, leb, ltb, List, [], ◌∷◌, ◌++◌, length, length-append, refl, sym, ap, arith, inl, inr, subst}
 use Rattle.std.specs.Prelude.{◌==◌}
-use Rattle.std.specs.List.{AllByRecursion, list_any, flat_map, filter, sum_by}
+use Rattle.std.specs.List.{AllByRecursion, list_any, flat_map, filter}
 use Rattle.std.proofs.lemmas.Bool.{cases_lt, cases_Bool, or_parts, and_parts, and_from, leb-false, lt-ltb, le-ltb, eq-eqb}
 use Rattle.std.proofs.lemmas.List.{length-map}
 use Rattle.std.proofs.lemmas.List.Concat.{length-flat_map}
@@ -9,15 +9,14 @@ use Rattle.hf_base.specs.Number.{num}
 use Rattle.hf_base.specs.NumberLaws.{length-num}
 use Rattle.hf_base.specs.declared.four.FourCc.{FourCc}
 use Rattle.hf_base.specs.declared.limits.TheConstants as limits
-use Rattle.hf_box.specs.Head.{box_len, box}
 use Rattle.hf_store.specs.Lists.{IsIn, RisesFrom}
 use Rattle.hf_store.specs.Store.{four, Brands, Prop, Held, RefList, Item, Group, ItemStore, ids_of}
 use Rattle.hf_store.specs.Table.{same_prop, table_of, number_of}
-use Rattle.hf_store.specs.Layout.{Homes, own, is_wide, id_width, is_long_table, box_if_any, ftyp_body, group_body, group_box, has_bytes, with_bytes, in_idat, is_data_item, bytes_in, written, mdat_body, idat_body, mdat_offset, idat_offset, offset_of, meta_front, meta_body, laid}
-use Rattle.hf_store.specs.Valid.{body_sum, meta_len, IsGoodRef, IsGoodItem, IsGoodGroup, Valid}
-use Rattle.hf_store.proofs.BoxLengths.{length-box, le-box, le-box_len, box_len-le}
+use Rattle.hf_store.specs.Layout.{Homes, own, is_wide, id_width, box_if_any, ftyp_body, group_body, group_box, has_bytes, with_bytes, in_idat, is_data_item, bytes_in, mdat_body, idat_body, mdat_offset, idat_offset, meta_front, laid}
+use Rattle.hf_store.specs.Valid.{body_sum, IsGoodRef, IsGoodItem, IsGoodGroup, Valid}
+use Rattle.hf_store.proofs.BoxLengths.{le-box, le-box_len, box_len-le}
 use Rattle.hf_store.proofs.Lengths.{meta_body_len, meta_len-is}
-use Rattle.hf_plan.specs.Lay.{IsWrittenRef, IsWrittenNumber, IsWrittenItem, IsWrittenGroup, IsWrittenExtent, IsWritten, LayBy, Lay}
+use Rattle.hf_plan.specs.Lay.{IsWrittenRef, IsWrittenNumber, IsWrittenItem, IsWrittenGroup, IsWrittenExtent, IsWritten, Lay}
 use Rattle.hf_plan.proofs.Lengths.{file_len, length-laid}
 
 -- ---- ids

@@ -1,5 +1,5 @@
 -- The canonical files of worked stores.
-use Rattle.std.proofs.Common.{◌≡◌, ℕ, refl, arith, inl}
+use Rattle.std.proofs.Common.{refl, arith, inl}
 use Rattle.hf_store.specs.Layout.{own}
 use Rattle.hf_store.specs.WorkedStores.{one_picture, one_empty_item, greatest_narrow_id, least_wide_id, two_widths, turned_picture, sized_picture, properties_127, properties_128, properties_300, identity_item, overlays, two_alternatives, picture_with_exif, picture_with_xmp, picture_with_thumbnail, every_feature, every_feature_wide, photograph, photograph_redacted, photograph_bare}
 use Rattle.hf_store.proofs.ValidStores.{layout, valid_properties_300}

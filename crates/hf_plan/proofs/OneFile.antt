@@ -1,10 +1,9 @@
 -- The laws of the canonical file.
-use Rattle.std.proofs.Common.{◌≡◌, ℕ, ◌+◌, ◌*◌, ◌^◌, ◌<◌, ◌≤◌, Bool, true, false, List, [], ◌∷◌, length, length-append, refl, ap, arith, ◌⊎◌, inl, inr}
+use Rattle.std.proofs.Common.{◌≡◌, ℕ, ◌+◌, ◌*◌, ◌^◌, ◌<◌, true, false, List, [], ◌∷◌, length, length-append, refl, ap, arith, inl, inr}
 use Rattle.std.proofs.lemmas.Bool.{cases_lt}
 use Rattle.hf_box.specs.Head.{box_len}
-use Rattle.hf_store.specs.Store.{Item, ItemStore}
+use Rattle.hf_store.specs.Store.{Item}
 use Rattle.hf_store.specs.Layout.{own, is_wide, id_width, has_bytes, with_bytes, bytes_in, meta_front, laid}
-use Rattle.hf_store.specs.Valid.{body_sum}
 use Rattle.hf_store.proofs.BoxLengths.{box_len-lt}
 use Rattle.hf_store.proofs.Lengths.{meta_body_len}
 use Rattle.hf_plan.specs.Lay.{Lay}
@@ -12,7 +11,7 @@ use Rattle.hf_plan.specs.Laws.{HasCanon, OneCanon, NarrowIsShorter, NarrowIsAsLo
 use Rattle.hf_plan.proofs.Lengths.{file_len, length-laid, length-LayBy, LayBy-one}
 use Rattle.hf_plan.proofs.Bounds.{lays, file_len-bound, body_sum-is}
 
-some_has : (bytes : List ℕ) → 0 < length bytes → has_bytes bytes ≡ true
+pub some_has : (bytes : List ℕ) → 0 < length bytes → has_bytes bytes ≡ true
 some_has [] h = absurd (omega arith)
 some_has (b ∷ bs) h = refl
 

@@ -1,16 +1,15 @@
 -- The bytes of each item stand at its offset.
-use Rattle.std.proofs.Common.{◌≡◌, ℕ, ◌+◌, ◌-◌, ◌<◌, ◌≤◌, Bool, true, false, not, ◌&&◌, cond, leb, ltb, eqb, List, [], ◌∷◌, ◌++◌, length, length-append, take, drop, refl, sym, ap, ◌∙◌, append_assoc, arith, ◌⊎◌, inl, inr, subst}
-use Rattle.std.specs.Prelude.{◌==◌, nat_le, nat_lt}
-use Rattle.std.specs.List.{AllByRecursion, filter, flat_map}
-use Rattle.std.proofs.lemmas.Bool.{cases_Bool, and_parts, and_from, eq-eqb, lt-ltb, le-ltb, le-leb, lt-leb}
+use Rattle.std.proofs.Common.{◌≡◌, ℕ, ◌<◌, ◌≤◌, Bool, true, false, not, ◌&&◌, cond, leb, ltb, List, [], ◌∷◌, ◌++◌, length, length-append, take, drop, refl, sym, ap, ◌∙◌, append_assoc, arith, inl, inr, subst}
+use Rattle.std.specs.Prelude.{◌==◌}
+use Rattle.std.specs.List.{AllByRecursion, filter}
+use Rattle.std.proofs.lemmas.Bool.{cases_Bool, and_from, eq-eqb, lt-ltb, le-ltb, le-leb, lt-leb}
 use Rattle.std.proofs.lemmas.List.{drop_at, take_at, append-nil}
 use Rattle.std.proofs.lemmas.List.Elements.{filter-append}
 use Rattle.hf_box.specs.Head.{box_head, box}
 use Rattle.hf_store.specs.Lists.{IsIn, RisesFrom}
 use Rattle.hf_store.specs.Store.{four, Item, ItemStore, ids_of}
-use Rattle.hf_store.specs.Layout.{Homes, own, has_bytes, in_idat, is_data_item, bytes_in, written, mdat_body, idat_body, mdat_offset, idat_offset, offset_of, ftyp_body, meta_body, laid}
-use Rattle.hf_plan.specs.Lay.{Lay}
-use Rattle.hf_plan.specs.Places.{StandsAt, source_of, BytesStand}
+use Rattle.hf_store.specs.Layout.{Homes, own, has_bytes, in_idat, is_data_item, bytes_in, mdat_body, idat_body, mdat_offset, idat_offset, ftyp_body, meta_body, laid}
+use Rattle.hf_plan.specs.Places.{StandsAt, BytesStand}
 
 -- ---- an item among others, whose ids rise
 

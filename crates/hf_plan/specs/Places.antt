@@ -1,5 +1,5 @@
 -- Where the bytes of items stand.
-use Rattle.std.specs.Prelude.{ℕ, ◌≡◌, ◌+◌, ◌≤◌, Bool, true, List, length, take, drop, if◌then◌else◌}
+use Rattle.std.specs.Prelude.{ℕ, ◌≡◌, ◌+◌, ◌≤◌, true, List, length, take, drop, if◌then◌else◌}
 use Rattle.hf_store.specs.Lists.{IsIn}
 use Rattle.hf_store.specs.Store.{Item, ItemStore}
 use Rattle.hf_store.specs.Layout.{own, has_bytes, in_idat, idat_body, offset_of}

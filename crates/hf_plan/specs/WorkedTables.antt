@@ -1,5 +1,5 @@
 -- The canonical files of worked stores with many properties, box by box.
-use Rattle.std.specs.Prelude.{ℕ, List, ◌++◌, replicate}
+use Rattle.std.specs.Prelude.{ℕ, List, ◌++◌}
 use Rattle.hf_store.specs.Hex.{hex}
 
 -- 1466 bytes

@@ -1,5 +1,5 @@
 -- Stores that are not valid.
-use Rattle.std.proofs.Common.{◌≡◌, ℕ, zero, suc, List, refl, arith, inl, inr}
+use Rattle.std.proofs.Common.{ℕ, zero, suc, refl, arith, inl, inr}
 use Rattle.hf_store.specs.Derived.{input_pairs, IsEndless}
 use Rattle.hf_store.specs.Valid.{Valid}
 use Rattle.hf_store.specs.BadStores.{brands_of_five_bytes, content_without_mime, cycle, dangling_reference, empty_reference, grid_cut_short, grid_of_long_sides_cut_short, grid_of_two_with_one, group_of_none, group_of_others, group_of_wide_flags, groups_of_one_id, identity_of_none, ids_of_one, iloc_reference, made_of_itself, mif1_across_brands, overlay_cut_short, primary_of_none, properties_256, references_fall, references_twice, uri_without_uri, without_mif1, zero_id, zero_in_name}

@@ -1,5 +1,5 @@
 -- Worked stores that are valid.
-use Rattle.std.proofs.Common.{◌≡◌, ◌<◌, ◌^◌, ℕ, List, [], ◌∷◌, ◌++◌, map, refl, arith}
+use Rattle.std.proofs.Common.{◌<◌, ◌^◌, ℕ, List, [], ◌∷◌, ◌++◌, map, refl, arith}
 use Rattle.std.specs.List.{AllByRecursion, range_with_len}
 use Rattle.hf_store.specs.Store.{Item, ids_of}
 use Rattle.std.specs.Prelude.{◌==◌, if◌then◌else◌}

@@ -1,9 +1,9 @@
 -- Stores that are not valid, each for one reason.
-use Rattle.std.specs.Prelude.{ℕ, ◌^◌, true, false, List, [], ◌∷◌, ◌++◌, map, replicate, codes}
+use Rattle.std.specs.Prelude.{◌^◌, [], ◌∷◌, map, replicate, codes}
 use Rattle.std.specs.List.{range_with_len}
 use Rattle.hf_store.specs.Hex.{hex}
-use Rattle.hf_store.specs.Store.{four, Brands, Prop, Held, RefList, Item, Group, ItemStore}
-use Rattle.hf_store.specs.WorkedStores.{heic, plain, essential, optional, references}
+use Rattle.hf_store.specs.Store.{four, ItemStore}
+use Rattle.hf_store.specs.WorkedStores.{heic, plain, optional, references}
 
 -- the brand `mif1` at no multiple of four bytes, and no other
 unfoldable pub without_mif1 : ItemStore

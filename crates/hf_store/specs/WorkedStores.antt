@@ -3,7 +3,7 @@ use Rattle.std.specs.Prelude.{ℕ, ◌+◌, ◌/◌, ◌%◌, ◌==◌, true, fa
 use Prim.Native.String.{String}
 use Rattle.std.specs.List.{range_with_len}
 use Rattle.hf_store.specs.Hex.{hex}
-use Rattle.hf_store.specs.Store.{four, Brands, Prop, Held, RefList, Item, Group, ItemStore}
+use Rattle.hf_store.specs.Store.{four, Brands, Held, RefList, Item, ItemStore}
 
 -- `heic`, compatible with `mif1` and `heic`
 abbrev pub heic : Brands
