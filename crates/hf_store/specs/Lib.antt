@@ -7,4 +7,7 @@ pub mod Picks
 pub mod Store
 pub mod Table
 pub mod Valid
+pub mod WorkedFiles
+pub mod WorkedPhotograph
 pub mod WorkedStores
+pub mod WorkedTables
