@@ -1,0 +1,6 @@
+pub mod Bounds
+pub mod CanonicalFiles
+pub mod Large
+pub mod Lengths
+pub mod OneFile
+pub mod Places

@@ -1,0 +1,23 @@
+//! Laws of the canonical file. Each is the contract of a function that does nothing.
+
+ghost use Rattle.hf_plan.specs.Laws.{HasCanon, OneCanon, NarrowIsAsLong, NarrowIsShorter};
+ghost use Rattle.hf_plan.specs.Places.{BytesStand};
+
+/// Each valid store has one canonical file, and only one.
+pub fn one_canonical_file()
+    ensures there { HasCanon }
+    ensures one { OneCanon }
+{}
+
+/// A layout with offsets of four bytes is shorter than the one with offsets of eight where some
+/// item has bytes, and otherwise as long.
+pub fn narrow_layout_is_shorter()
+    ensures shorter { NarrowIsShorter }
+    ensures as_long { NarrowIsAsLong }
+{}
+
+/// The bytes of each item stand at the offset that is written for it: in the file, or in the body
+/// of `idat`.
+pub fn bytes_stand_at_their_offsets()
+    ensures { BytesStand }
+{}

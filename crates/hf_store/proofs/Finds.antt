@@ -1,0 +1,20 @@
+-- What a test finds is there.
+use Rattle.std.proofs.Common.{◌≡◌, ℕ, Bool, true, ◌||◌, List, [], ◌∷◌, subst, eqb-true, inl, inr}
+use Rattle.std.specs.Prelude.{◌==◌}
+use Rattle.std.specs.List.{list_any, list_all, AllByRecursion}
+use Rattle.std.proofs.lemmas.Bool.{cases_Bool, and_parts}
+use Rattle.hf_store.specs.Lists.{IsIn}
+
+pub found : (x : ℕ) (xs : List ℕ) → list_any (λ y. y == x) xs ≡ true → IsIn x xs
+found x [] e = absurd cc
+found x (y ∷ ys) e =
+    elim (cases_Bool (y == x)) [
+      | inl here ↦ inl (eqb-true y x here)
+      | inr not_here ↦ inr (found x ys (subst (λ (b : Bool). (b || list_any (λ z. z == x) ys) ≡ true) not_here e))
+    ]
+
+pub all_found : (ids xs : List ℕ) → list_all (λ x. list_any (λ y. y == x) ids) xs ≡ true → AllByRecursion (λ x. IsIn x ids) xs
+all_found ids [] e = tt
+all_found ids (x ∷ xs) e =
+    let parts = and_parts _ _ e in
+    (found x ids parts.0, all_found ids xs parts.1)

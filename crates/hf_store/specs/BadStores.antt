@@ -1,0 +1,253 @@
+-- Stores that are not valid, each for one reason.
+use Rattle.std.specs.Prelude.{◌^◌, [], ◌∷◌, map, replicate, codes}
+use Rattle.std.specs.List.{range_with_len}
+use Rattle.hf_store.specs.Hex.{hex}
+use Rattle.hf_store.specs.Store.{four, ItemStore}
+use Rattle.hf_store.specs.WorkedStores.{heic, plain, optional, references}
+
+-- the brand `mif1` at no multiple of four bytes, and no other
+unfoldable pub without_mif1 : ItemStore
+without_mif1 = record {
+  brands = record { major = four "heic"; minor = 0; compatible = codes "xmif1hei" };
+  primary = 1;
+  items =
+      plain 1 "hvc1" (hex "aabbcc")
+      ∷ [];
+  groups = [];
+}
+
+-- `mif1` across two brands
+unfoldable pub mif1_across_brands : ItemStore
+mif1_across_brands = record {
+  brands = record { major = four "heic"; minor = 0; compatible = codes "xxmif1yy" };
+  primary = 1;
+  items =
+      plain 1 "hvc1" (hex "aabbcc")
+      ∷ [];
+  groups = [];
+}
+
+-- compatible brands of five bytes
+unfoldable pub brands_of_five_bytes : ItemStore
+brands_of_five_bytes = record {
+  brands = record { major = four "mif1"; minor = 0; compatible = codes "heicx" };
+  primary = 1;
+  items =
+      plain 1 "hvc1" (hex "aabbcc")
+      ∷ [];
+  groups = [];
+}
+
+-- a zero byte in a name
+unfoldable pub zero_in_name : ItemStore
+zero_in_name = record {
+  brands = heic;
+  primary = 1;
+  items =
+      record (plain 1 "hvc1" []) { name = hex "610062" }
+      ∷ [];
+  groups = [];
+}
+
+-- a content type of an item that is not `mime`
+unfoldable pub content_without_mime : ItemStore
+content_without_mime = record {
+  brands = heic;
+  primary = 1;
+  items =
+      record (plain 1 "hvc1" []) { content = codes "x" }
+      ∷ [];
+  groups = [];
+}
+
+-- a URI type of an item that is not `uri `
+unfoldable pub uri_without_uri : ItemStore
+uri_without_uri = record {
+  brands = heic;
+  primary = 1;
+  items =
+      record (plain 1 "hvc1" []) { uri = codes "x" }
+      ∷ [];
+  groups = [];
+}
+
+-- reference types that fall
+unfoldable pub references_fall : ItemStore
+references_fall = record {
+  brands = heic;
+  primary = 1;
+  items =
+      record (plain 1 "hvc1" []) { refs = references "thmb" (1 ∷ []) ∷ references "cdsc" (1 ∷ []) ∷ [] }
+      ∷ [];
+  groups = [];
+}
+
+-- two lists of one reference type
+unfoldable pub references_twice : ItemStore
+references_twice = record {
+  brands = heic;
+  primary = 1;
+  items =
+      record (plain 1 "hvc1" []) { refs = references "cdsc" (1 ∷ []) ∷ references "cdsc" (1 ∷ []) ∷ [] }
+      ∷ [];
+  groups = [];
+}
+
+-- a reference of type `iloc`
+unfoldable pub iloc_reference : ItemStore
+iloc_reference = record {
+  brands = heic;
+  primary = 1;
+  items =
+      record (plain 1 "hvc1" []) { refs = references "iloc" (1 ∷ []) ∷ [] }
+      ∷ [];
+  groups = [];
+}
+
+-- a reference to no item
+unfoldable pub dangling_reference : ItemStore
+dangling_reference = record {
+  brands = heic;
+  primary = 1;
+  items =
+      record (plain 1 "hvc1" []) { refs = references "cdsc" (2 ∷ []) ∷ [] }
+      ∷ [];
+  groups = [];
+}
+
+-- an identity item that is made of nothing
+unfoldable pub identity_of_none : ItemStore
+identity_of_none = record {
+  brands = heic;
+  primary = 1;
+  items =
+      plain 1 "iden" []
+      ∷ [];
+  groups = [];
+}
+
+-- a grid of two cells with one input
+unfoldable pub grid_of_two_with_one : ItemStore
+grid_of_two_with_one = record {
+  brands = heic;
+  primary = 1;
+  items =
+      plain 1 "hvc1" []
+      ∷ record (plain 2 "grid" (hex "00000001 00080004")) { refs = references "dimg" (1 ∷ []) ∷ [] }
+      ∷ [];
+  groups = [];
+}
+
+-- a grid whose height is cut short
+unfoldable pub grid_cut_short : ItemStore
+grid_cut_short = record {
+  brands = heic;
+  primary = 1;
+  items =
+      plain 1 "hvc1" []
+      ∷ record (plain 2 "grid" (hex "00000000 000800")) { refs = references "dimg" (1 ∷ []) ∷ [] }
+      ∷ [];
+  groups = [];
+}
+
+-- a grid that says four bytes a side and has two
+unfoldable pub grid_of_long_sides_cut_short : ItemStore
+grid_of_long_sides_cut_short = record {
+  brands = heic;
+  primary = 1;
+  items =
+      plain 1 "hvc1" []
+      ∷ record (plain 2 "grid" (hex "00010000 00080004")) { refs = references "dimg" (1 ∷ []) ∷ [] }
+      ∷ [];
+  groups = [];
+}
+
+-- an overlay without the second offset of its input
+unfoldable pub overlay_cut_short : ItemStore
+overlay_cut_short = record {
+  brands = heic;
+  primary = 1;
+  items =
+      plain 1 "hvc1" []
+      ∷ record (plain 2 "iovl" (replicate 17 0x00)) { refs = references "dimg" (1 ∷ []) ∷ [] }
+      ∷ [];
+  groups = [];
+}
+
+-- two identity items that are made of each other
+unfoldable pub cycle : ItemStore
+cycle = record {
+  brands = heic;
+  primary = 1;
+  items =
+      record (plain 1 "iden" []) { refs = references "dimg" (2 ∷ []) ∷ [] }
+      ∷ record (plain 2 "iden" []) { refs = references "dimg" (1 ∷ []) ∷ [] }
+      ∷ [];
+  groups = [];
+}
+
+-- two groups with one id
+unfoldable pub groups_of_one_id : ItemStore
+groups_of_one_id = record {
+  brands = heic;
+  primary = 1;
+  items =
+      plain 1 "hvc1" (hex "aabbcc")
+      ∷ [];
+  groups =
+      record { kind = four "altr"; version = 0; flags = 0; id = 5; entities = 1 ∷ []; tail = [] }
+      ∷ record { kind = four "altr"; version = 0; flags = 0; id = 5; entities = 1 ∷ []; tail = [] }
+      ∷ [];
+}
+
+-- a group without entities
+unfoldable pub group_of_none : ItemStore
+group_of_none = record {
+  brands = heic;
+  primary = 1;
+  items =
+      plain 1 "hvc1" (hex "aabbcc")
+      ∷ [];
+  groups =
+      record { kind = four "altr"; version = 0; flags = 0; id = 5; entities = []; tail = [] }
+      ∷ [];
+}
+
+-- an item with id 0
+unfoldable pub zero_id : ItemStore
+zero_id = record {
+  brands = heic;
+  primary = 1;
+  items =
+      plain 0 "hvc1" []
+      ∷ [];
+  groups = [];
+}
+
+-- an item's id twice
+unfoldable pub ids_of_one : ItemStore
+ids_of_one = record { brands = heic; primary = 1; items = plain 1 "hvc1" [] ∷ plain 1 "hvc1" [] ∷ []; groups = [] }
+
+-- a primary that is no item
+unfoldable pub primary_of_none : ItemStore
+primary_of_none = record { brands = heic; primary = 2; items = plain 1 "hvc1" [] ∷ []; groups = [] }
+
+-- a list of references to nothing
+unfoldable pub empty_reference : ItemStore
+empty_reference = record { brands = heic; primary = 1; items = record (plain 1 "hvc1" []) { refs = references "cdsc" [] ∷ [] } ∷ []; groups = [] }
+
+-- a group with an entity that is no item
+unfoldable pub group_of_others : ItemStore
+group_of_others = record { brands = heic; primary = 1; items = plain 1 "hvc1" [] ∷ []; groups = record { kind = four "altr"; version = 0; flags = 0; id = 5; entities = 2 ∷ []; tail = [] } ∷ [] }
+
+-- a group whose flags take more than three bytes
+unfoldable pub group_of_wide_flags : ItemStore
+group_of_wide_flags = record { brands = heic; primary = 1; items = plain 1 "hvc1" [] ∷ []; groups = record { kind = four "altr"; version = 0; flags = 256 ^ 3; id = 5; entities = 1 ∷ []; tail = [] } ∷ [] }
+
+-- one property more than an item may have
+unfoldable pub properties_256 : ItemStore
+properties_256 = record { brands = heic; primary = 1; items = record (plain 1 "hvc1" []) { props = map (λ n. optional "prop" (n ∷ [])) (range_with_len 0 256) } ∷ []; groups = [] }
+
+-- an identity item that is made of itself
+unfoldable pub made_of_itself : ItemStore
+made_of_itself = record { brands = heic; primary = 1; items = record (plain 1 "iden" []) { refs = references "dimg" (1 ∷ []) ∷ [] } ∷ []; groups = [] }

@@ -1,0 +1,13 @@
+pub mod BadStores
+pub mod Derived
+pub mod Hex
+pub mod Layout
+pub mod Lists
+pub mod Picks
+pub mod Store
+pub mod Table
+pub mod Valid
+pub mod WorkedFiles
+pub mod WorkedPhotograph
+pub mod WorkedStores
+pub mod WorkedTables

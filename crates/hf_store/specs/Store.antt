@@ -1,0 +1,62 @@
+-- What a file says of its items, without where anything lies in it: no offset, extent, construction method or
+-- reference of type `iloc`. The terms are those of ISO/IEC 14496-12 and ISO/IEC 23008-12.
+use Rattle.std.specs.Prelude.{ℕ, Bool, List, map, codes}
+use Prim.Native.String.{String}
+use Rattle.hf_base.specs.declared.four.FourCc.{FourCc}
+
+-- the type, brand or handler that this text spells
+abbrev pub four : String → FourCc
+four s = record { 0 = codes s }
+
+-- `ftyp`: the compatible brands take four bytes each
+pub record Brands : Type 0 where
+  pub major : FourCc
+  pub minor : ℕ
+  pub compatible : List ℕ
+
+-- a box of `ipco`
+pub record Prop : Type 0 where
+  pub kind : FourCc
+  pub body : List ℕ
+
+-- a property as an item holds it, with the essential mark of its association
+pub record Held : Type 0 where
+  pub essential : Bool
+  pub prop : Prop
+
+-- the references of one type that an item has: their type, and the ids of the items that they lead to
+pub record RefList : Type 0 where
+  pub kind : FourCc
+  pub to : List ℕ
+
+-- an item: what its `infe` says, its bytes, its properties in the order of their associations, its references
+pub record Item : Type 0 where
+  pub id : ℕ
+  pub kind : FourCc
+  pub hidden : Bool
+  pub name : List ℕ
+  pub content : List ℕ
+  pub encoding : List ℕ
+  pub uri : List ℕ
+  pub bytes : List ℕ
+  pub props : List Held
+  pub refs : List RefList
+
+-- an entity group: a box of `grpl`, with the bytes after its entities
+pub record Group : Type 0 where
+  pub kind : FourCc
+  pub version : ℕ
+  pub flags : ℕ
+  pub id : ℕ
+  pub entities : List ℕ
+  pub tail : List ℕ
+
+-- the brands, the id of the primary item, the items by rising id, the groups by rising id
+pub record ItemStore : Type 0 where
+  pub brands : Brands
+  pub primary : ℕ
+  pub items : List Item
+  pub groups : List Group
+
+abbrev pub ids_of : List Item → List ℕ
+ids_of is = map (λ (i : Item). i.id) is

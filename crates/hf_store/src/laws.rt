@@ -1,0 +1,10 @@
+//! Laws of the item store. Each is the contract of a function that does nothing.
+
+ghost use Rattle.hf_store.specs.Picks.{NumbersSelect, SelectsOnce};
+
+/// The property numbers of a canonical file select the properties of each item, in order, and
+/// nothing else.
+pub fn property_numbers_select()
+    ensures selects { NumbersSelect }
+    ensures once { SelectsOnce }
+{}

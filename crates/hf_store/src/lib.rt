@@ -1,0 +1,6 @@
+//! The store of items: what it is, and which stores are valid.
+#![tactic(auto)]
+
+pub mod broken;
+pub mod laws;
+pub mod worked;
