@@ -1,5 +1,6 @@
 pub mod BoxLengths
 pub mod Ends
+pub mod FieldLengths
 pub mod Finds
 pub mod LaidFiles
 pub mod Lengths
