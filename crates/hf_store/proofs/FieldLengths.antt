@@ -1,12 +1,15 @@
 -- How long the bodies of the boxes are whose fields have known widths.
-use Rattle.std.proofs.Common.{◌≡◌, ℕ, ◌+◌, ◌*◌, Bool, true, false, List, [], ◌∷◌, ◌++◌, length, length-append, arith}
+use Rattle.std.proofs.Common.{◌≡◌, ℕ, ◌+◌, ◌*◌, Bool, true, false, List, [], ◌∷◌, ◌++◌, length, length-append, refl, arith}
 use Rattle.std.specs.Prelude.{if◌then◌else◌}
 use Rattle.std.specs.List.{flat_map, filter}
 use Rattle.hf_base.specs.Number.{num}
 use Rattle.hf_base.specs.NumberLaws.{length-num}
+use Rattle.hf_base.specs.Reading.{full as full_box}
+use Rattle.hf_box.specs.Head.{box_len}
 use Rattle.hf_box.specs.Walk.{is_kind}
-use Rattle.hf_store.specs.Store.{four, Brands, Prop, Held, Item, Group}
-use Rattle.hf_store.specs.Layout.{bit, id_width, zero_ended, zero_ended_if_any, ftyp_body, hdlr_body, pitm_body, infe_body, infe_box, iinf_body, reference_body, is_long_table, association, ipma_entry, has_props, ipma_body, group_body}
+use Rattle.hf_store.specs.Store.{four, Brands, Prop, Held, Item, Group, ItemStore}
+use Rattle.hf_store.specs.Layout.{bit, is_wide, id_width, id_version, box_if_any, reference_boxes, iprp_body, group_box, idat_body, meta_front, zero_ended, zero_ended_if_any, ftyp_body, hdlr_body, pitm_body, infe_body, infe_box, iinf_body, reference_body, is_long_table, association, ipma_entry, has_props, ipma_body, group_body}
+use Rattle.hf_store.proofs.BoxLengths.{length-box}
 
 pub length-ftyp_body : (b : Brands) → length b.major.0 ≡ 4 → length (ftyp_body b) ≡ 8 + length b.compatible
 unfolding ftyp_body
@@ -64,3 +67,16 @@ length-ipma_body wide table is = simp (length-append, length-num) (omega arith)
 pub length-group_body : (g : Group) → length (group_body g) ≡ 12 + length g.entities * 4 + length g.tail
 unfolding group_body
 length-group_body g = simp (length-append, length-num, length-nums) (omega arith)
+
+-- the parts of `meta` before its `iloc`
+pub length-meta_front : (s : ItemStore)
+    → length (meta_front s)
+    ≡ 4 + box_len (length hdlr_body) + box_len (length (pitm_body (is_wide s.items) s.primary)) + box_len (length (iinf_body (is_wide s.items) s.items))
+    + length (box_if_any (four "iref") (full_box (id_version (is_wide s.items)) 0) (reference_boxes (is_wide s.items) s.items))
+    + box_len (length (iprp_body (is_wide s.items) s))
+    + length (box_if_any (four "grpl") [] (flat_map group_box s.groups))
+    + length (box_if_any (four "idat") [] (idat_body s.items))
+unfolding meta_front
+length-meta_front s =
+    let wide = is_wide s.items in
+    simp (length-append, length-num, length-box (four "hdlr") hdlr_body refl, length-box (four "pitm") (pitm_body wide s.primary) refl, length-box (four "iinf") (iinf_body wide s.items) refl, length-box (four "iprp") (iprp_body wide s) refl) (omega arith)
