@@ -1,20 +1,20 @@
 -- The numbers of a valid store fit the widths that they are written in.
-use Rattle.std.proofs.Common.{◌≡◌, ℕ, suc, ◌+◌, ◌*◌, ◌^◌, ◌<◌, ◌≤◌, Bool, true, false, not, ◌&&◌, cond, leb, ltb, List, [], ◌∷◌, ◌++◌, length, length-append, refl, sym, ap, arith, inl, inr, subst}
+use Rattle.std.proofs.Common.{◌≡◌, ℕ, suc, ◌+◌, ◌^◌, ◌<◌, ◌≤◌, Bool, true, false, not, ◌&&◌, cond, leb, ltb, List, [], ◌∷◌, ◌++◌, length, length-append, refl, sym, ap, arith, inl, inr, subst}
 use Rattle.std.specs.Prelude.{◌==◌}
 use Rattle.std.specs.List.{AllByRecursion, list_any, flat_map, filter}
 use Rattle.std.proofs.lemmas.Bool.{cases_lt, cases_Bool, or_parts, and_parts, and_from, leb-false, lt-ltb, le-ltb, eq-eqb}
 use Rattle.std.proofs.lemmas.List.{length-map}
 use Rattle.std.proofs.lemmas.List.Concat.{length-flat_map}
-use Rattle.hf_base.specs.Number.{num}
 use Rattle.hf_base.specs.NumberLaws.{length-num}
 use Rattle.hf_base.specs.declared.four.FourCc.{FourCc}
 use Rattle.hf_base.specs.declared.limits.TheConstants as limits
 use Rattle.hf_store.specs.Lists.{IsIn, RisesFrom}
-use Rattle.hf_store.specs.Store.{four, Brands, Prop, Held, RefList, Item, Group, ItemStore, ids_of}
+use Rattle.hf_store.specs.Store.{four, Prop, Held, RefList, Item, Group, ItemStore, ids_of}
 use Rattle.hf_store.specs.Table.{same_prop, table_of, number_of}
 use Rattle.hf_store.specs.Layout.{Homes, own, is_wide, id_width, box_if_any, ftyp_body, group_body, group_box, has_bytes, with_bytes, in_idat, is_data_item, bytes_in, mdat_body, idat_body, mdat_offset, idat_offset, meta_front, laid}
 use Rattle.hf_store.specs.Valid.{body_sum, IsGoodRef, IsGoodItem, IsGoodGroup, Valid}
 use Rattle.hf_store.proofs.BoxLengths.{le-box, le-box_len, box_len-le}
+use Rattle.hf_store.proofs.FieldLengths.{length-ftyp_body, length-nums}
 use Rattle.hf_store.proofs.Lengths.{meta_body_len, meta_len-is}
 use Rattle.hf_plan.specs.Lay.{IsWrittenRef, IsWrittenNumber, IsWrittenItem, IsWrittenGroup, IsWrittenExtent, IsWritten, Lay}
 use Rattle.hf_plan.proofs.Lengths.{file_len, length-laid}
@@ -95,10 +95,6 @@ items_fit wide table all (i ∷ is) few below mine good = (
   record { id = mine.0; props = omega (arith, good.0.props); numbers = numbers_fit table i.props few; refs = refs_fit wide all i.refs below good.0.refs },
   items_fit wide table all is few below mine.1 good.1,
 )
-
-length-nums : (w : ℕ) (xs : List ℕ) → length (flat_map (λ x. num x w) xs) ≡ length xs * w
-length-nums w [] = omega arith
-length-nums w (x ∷ xs) = simp (length-append, length-num) (omega (arith, length-nums w xs))
 
 le-group_box : (g : Group) → length g.entities ≤ length (group_box g)
 unfolding group_body
@@ -249,10 +245,6 @@ bytes-part p (i ∷ is) =
       | inl here ↦ rw here (simp length-append (omega (arith, rest)))
       | inr not_here ↦ rw not_here (simp length-append (omega (arith, rest)))
     ]
-
-length-ftyp_body : (b : Brands) → length b.major.0 ≡ 4 → length (ftyp_body b) ≡ 8 + length b.compatible
-unfolding ftyp_body
-length-ftyp_body b major = simp (length-append, length-num) (omega (arith, major))
 
 pub file_len-bound : (s : ItemStore) → Valid s → file_len own 8 s < 2 ^ 63
 unfolding file_len

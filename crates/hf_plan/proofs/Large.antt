@@ -2,12 +2,13 @@
 use Rattle.std.proofs.Common.{◌≡◌, ℕ, ◌^◌, ◌<◌, true, List, length, length-append, refl, ◌∙◌, arith, inl, inr}
 use Rattle.hf_store.specs.Store.{ItemStore}
 use Rattle.hf_store.specs.Layout.{own, has_bytes, laid}
+use Rattle.hf_store.proofs.Finds.{some_has}
 use Rattle.hf_store.proofs.Lengths.{meta_body_len}
 use Rattle.hf_store.proofs.ValidStores.{layout}
 use Rattle.hf_plan.specs.Lay.{IsWritten, Lay}
-use Rattle.hf_plan.specs.Large.{picture_of, picture_and_none, LongestNarrow, ShortestWide, NoneFits}
+use Rattle.hf_store.specs.LargeStores.{picture_of}
+use Rattle.hf_plan.specs.Large.{picture_and_none, LongestNarrow, ShortestWide, NoneFits}
 use Rattle.hf_plan.proofs.Lengths.{file_len, length-laid, length-LayBy}
-use Rattle.hf_plan.proofs.OneFile.{some_has}
 
 narrow_len : (bytes : List ℕ) → has_bytes bytes ≡ true → length bytes ≡ 4294967105 → file_len own 4 (picture_of bytes) ≡ 4294967295
 unfolding layout file_len meta_body_len picture_of

@@ -1,23 +1,16 @@
 -- The laws of the canonical file.
-use Rattle.std.proofs.Common.{◌≡◌, ℕ, ◌+◌, ◌*◌, ◌^◌, ◌<◌, true, false, List, [], ◌∷◌, length, length-append, refl, ap, arith, inl, inr}
+use Rattle.std.proofs.Common.{◌≡◌, ℕ, ◌+◌, ◌*◌, ◌^◌, ◌<◌, List, [], ◌∷◌, length, length-append, refl, ap, arith, inl, inr}
 use Rattle.std.proofs.lemmas.Bool.{cases_lt}
 use Rattle.hf_box.specs.Head.{box_len}
 use Rattle.hf_store.specs.Store.{Item}
-use Rattle.hf_store.specs.Layout.{own, is_wide, id_width, has_bytes, with_bytes, bytes_in, meta_front, laid}
+use Rattle.hf_store.specs.Layout.{own, is_wide, id_width, with_bytes, bytes_in, meta_front, laid}
+use Rattle.hf_store.proofs.Finds.{some_has, none_has}
 use Rattle.hf_store.proofs.BoxLengths.{box_len-lt}
 use Rattle.hf_store.proofs.Lengths.{meta_body_len}
 use Rattle.hf_plan.specs.Lay.{Lay}
 use Rattle.hf_plan.specs.Laws.{HasCanon, OneCanon, NarrowIsShorter, NarrowIsAsLong}
 use Rattle.hf_plan.proofs.Lengths.{file_len, length-laid, length-LayBy, LayBy-one}
 use Rattle.hf_plan.proofs.Bounds.{lays, file_len-bound, body_sum-is}
-
-pub some_has : (bytes : List ℕ) → 0 < length bytes → has_bytes bytes ≡ true
-some_has [] h = absurd (omega arith)
-some_has (b ∷ bs) h = refl
-
-none_has : (bytes : List ℕ) → length bytes ≡ 0 → has_bytes bytes ≡ false
-none_has [] h = refl
-none_has (b ∷ bs) h = absurd (omega arith)
 
 some_with : (is : List Item) → 0 < length (bytes_in is) → 0 < length (with_bytes is)
 unfolding bytes_in

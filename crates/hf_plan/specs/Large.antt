@@ -1,15 +1,12 @@
 -- Stores with payloads about as long as four bytes can say, whatever these payloads hold.
 use Rattle.std.specs.Prelude.{ℕ, ◌≡◌, ◌-◌, ◌^◌, List, [], ◌∷◌, length}
 use Rattle.hf_store.specs.Store.{ItemStore}
+use Rattle.hf_store.specs.LargeStores.{picture_of}
 use Rattle.hf_store.specs.WorkedStores.{heic, plain}
 use Rattle.hf_plan.specs.Lay.{Lay}
 use Rattle.hf_plan.specs.Canon.{Canon}
 
--- one picture of these bytes
-unfoldable pub picture_of : List ℕ → ItemStore
-picture_of bytes = record { brands = heic; primary = 1; items = plain 1 "hvc1" bytes ∷ []; groups = [] }
-
--- the same, and an item without bytes
+-- one picture of these bytes, and an item without bytes
 unfoldable pub picture_and_none : List ℕ → ItemStore
 picture_and_none bytes = record { brands = heic; primary = 1; items = plain 1 "hvc1" bytes ∷ plain 2 "hvc1" [] ∷ []; groups = [] }
 

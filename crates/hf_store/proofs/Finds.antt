@@ -1,8 +1,9 @@
 -- What a test finds is there.
-use Rattle.std.proofs.Common.{◌≡◌, ℕ, Bool, true, ◌||◌, List, [], ◌∷◌, subst, eqb-true, inl, inr}
+use Rattle.std.proofs.Common.{◌≡◌, ◌<◌, ℕ, Bool, true, false, ◌||◌, List, [], ◌∷◌, length, refl, arith, subst, eqb-true, inl, inr}
 use Rattle.std.specs.Prelude.{◌==◌}
 use Rattle.std.specs.List.{list_any, list_all, AllByRecursion}
 use Rattle.std.proofs.lemmas.Bool.{cases_Bool, and_parts}
+use Rattle.hf_store.specs.Layout.{has_bytes}
 use Rattle.hf_store.specs.Lists.{IsIn}
 
 pub found : (x : ℕ) (xs : List ℕ) → list_any (λ y. y == x) xs ≡ true → IsIn x xs
@@ -18,3 +19,12 @@ all_found ids [] e = tt
 all_found ids (x ∷ xs) e =
     let parts = and_parts _ _ e in
     (found x ids parts.0, all_found ids xs parts.1)
+
+-- bytes that are some, and bytes that are none
+pub some_has : (bytes : List ℕ) → 0 < length bytes → has_bytes bytes ≡ true
+some_has [] h = absurd (omega arith)
+some_has (b ∷ bs) h = refl
+
+pub none_has : (bytes : List ℕ) → length bytes ≡ 0 → has_bytes bytes ≡ false
+none_has [] h = refl
+none_has (b ∷ bs) h = absurd (omega arith)

@@ -1,7 +1,9 @@
 pub mod BoxLengths
 pub mod Ends
+pub mod FieldLengths
 pub mod Finds
 pub mod LaidFiles
+pub mod LargeStores
 pub mod Lengths
 pub mod RefusedStores
 pub mod Tables

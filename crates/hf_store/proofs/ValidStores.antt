@@ -29,155 +29,56 @@ good_tiles is (id ∷ ids) rest few good = (good_tile is id few.0, good_tiles is
 pub valid_one_picture : Valid one_picture
 unfolding layout one_picture
 valid_one_picture =
-    record {
-      brands = search arith;
-      ids_rise = search arith;
-      primary = search found;
-      items = search (found, arith);
-      groups_rise = search arith;
-      groups = search (found, arith);
-      ends = ends (λ id. 0) (input_pairs one_picture.items) refl;
-      count = omega arith;
-      kinds = omega arith;
-      body = omega arith;
-      meta = omega arith;
-    }
+    let ends = ends (λ id. 0) (input_pairs one_picture.items) refl in
+    search (found, ends, arith)
 
 pub valid_one_empty_item : Valid one_empty_item
 unfolding layout one_empty_item
 valid_one_empty_item =
-    record {
-      brands = search arith;
-      ids_rise = search arith;
-      primary = search found;
-      items = search (found, arith);
-      groups_rise = search arith;
-      groups = search (found, arith);
-      ends = ends (λ id. 0) (input_pairs one_empty_item.items) refl;
-      count = omega arith;
-      kinds = omega arith;
-      body = omega arith;
-      meta = omega arith;
-    }
+    let ends = ends (λ id. 0) (input_pairs one_empty_item.items) refl in
+    search (found, ends, arith)
 
 pub valid_greatest_narrow_id : Valid greatest_narrow_id
 unfolding layout greatest_narrow_id
 valid_greatest_narrow_id =
-    record {
-      brands = search arith;
-      ids_rise = search arith;
-      primary = search found;
-      items = search (found, arith);
-      groups_rise = search arith;
-      groups = search (found, arith);
-      ends = ends (λ id. 0) (input_pairs greatest_narrow_id.items) refl;
-      count = omega arith;
-      kinds = omega arith;
-      body = omega arith;
-      meta = omega arith;
-    }
+    let ends = ends (λ id. 0) (input_pairs greatest_narrow_id.items) refl in
+    search (found, ends, arith)
 
 pub valid_least_wide_id : Valid least_wide_id
 unfolding layout least_wide_id
 valid_least_wide_id =
-    record {
-      brands = search arith;
-      ids_rise = search arith;
-      primary = search found;
-      items = search (found, arith);
-      groups_rise = search arith;
-      groups = search (found, arith);
-      ends = ends (λ id. 0) (input_pairs least_wide_id.items) refl;
-      count = omega arith;
-      kinds = omega arith;
-      body = omega arith;
-      meta = omega arith;
-    }
+    let ends = ends (λ id. 0) (input_pairs least_wide_id.items) refl in
+    search (found, ends, arith)
 
 pub valid_two_widths : Valid two_widths
 unfolding layout two_widths
 valid_two_widths =
-    record {
-      brands = search arith;
-      ids_rise = search arith;
-      primary = search found;
-      items = search (found, arith);
-      groups_rise = search arith;
-      groups = search (found, arith);
-      ends = ends (λ id. 0) (input_pairs two_widths.items) refl;
-      count = omega arith;
-      kinds = omega arith;
-      body = omega arith;
-      meta = omega arith;
-    }
+    let ends = ends (λ id. 0) (input_pairs two_widths.items) refl in
+    search (found, ends, arith)
 
 pub valid_turned_picture : Valid turned_picture
 unfolding layout turned_picture
 valid_turned_picture =
-    record {
-      brands = search arith;
-      ids_rise = search arith;
-      primary = search found;
-      items = search (found, arith);
-      groups_rise = search arith;
-      groups = search (found, arith);
-      ends = ends (λ id. 0) (input_pairs turned_picture.items) refl;
-      count = omega arith;
-      kinds = omega arith;
-      body = omega arith;
-      meta = omega arith;
-    }
+    let ends = ends (λ id. 0) (input_pairs turned_picture.items) refl in
+    search (found, ends, arith)
 
 pub valid_sized_picture : Valid sized_picture
 unfolding layout sized_picture
 valid_sized_picture =
-    record {
-      brands = search arith;
-      ids_rise = search arith;
-      primary = search found;
-      items = search (found, arith);
-      groups_rise = search arith;
-      groups = search (found, arith);
-      ends = ends (λ id. 0) (input_pairs sized_picture.items) refl;
-      count = omega arith;
-      kinds = omega arith;
-      body = omega arith;
-      meta = omega arith;
-    }
+    let ends = ends (λ id. 0) (input_pairs sized_picture.items) refl in
+    search (found, ends, arith)
 
 pub valid_properties_127 : Valid properties_127
 unfolding layout properties_127
 valid_properties_127 =
-    record {
-      brands = search arith;
-      ids_rise = search arith;
-      primary = search found;
-      items = search (found, arith);
-      groups_rise = search arith;
-      groups = search (found, arith);
-      ends = ends (λ id. 0) (input_pairs properties_127.items) refl;
-      count = omega arith;
-      kinds = omega arith;
-      body = omega arith;
-      meta = omega arith;
-    }
+    let ends = ends (λ id. 0) (input_pairs properties_127.items) refl in
+    search (found, ends, arith)
 
 pub valid_properties_128 : Valid properties_128
 unfolding layout properties_128
 valid_properties_128 =
-    record {
-      brands = search arith;
-      ids_rise = search arith;
-      primary = search found;
-      items = search (found, arith);
-      groups_rise = search arith;
-      groups = search (found, arith);
-      ends = ends (λ id. 0) (input_pairs properties_128.items) refl;
-      count = omega arith;
-      kinds = omega arith;
-      body = omega arith;
-      meta = omega arith;
-    }
+    let ends = ends (λ id. 0) (input_pairs properties_128.items) refl in
+    search (found, ends, arith)
 
 pub valid_properties_300 : Valid properties_300
 unfolding layout properties_300
@@ -199,104 +100,38 @@ valid_properties_300 =
 pub valid_identity_item : Valid identity_item
 unfolding layout identity_item
 valid_identity_item =
-    record {
-      brands = search arith;
-      ids_rise = search arith;
-      primary = search found;
-      items = search (found, arith);
-      groups_rise = search arith;
-      groups = search (found, arith);
-      ends = ends (λ id. if id == 2 then 1 else 0) (input_pairs identity_item.items) refl;
-      count = omega arith;
-      kinds = omega arith;
-      body = omega arith;
-      meta = omega arith;
-    }
+    let ends = ends (λ id. if id == 2 then 1 else 0) (input_pairs identity_item.items) refl in
+    search (found, ends, arith)
 
 pub valid_overlays : Valid overlays
 unfolding layout overlays
 valid_overlays =
-    record {
-      brands = search arith;
-      ids_rise = search arith;
-      primary = search found;
-      items = search (found, arith);
-      groups_rise = search arith;
-      groups = search (found, arith);
-      ends = ends (λ id. 0) (input_pairs overlays.items) refl;
-      count = omega arith;
-      kinds = omega arith;
-      body = omega arith;
-      meta = omega arith;
-    }
+    let ends = ends (λ id. 0) (input_pairs overlays.items) refl in
+    search (found, ends, arith)
 
 pub valid_two_alternatives : Valid two_alternatives
 unfolding layout two_alternatives
 valid_two_alternatives =
-    record {
-      brands = search arith;
-      ids_rise = search arith;
-      primary = search found;
-      items = search (found, arith);
-      groups_rise = search arith;
-      groups = search (found, arith);
-      ends = ends (λ id. 0) (input_pairs two_alternatives.items) refl;
-      count = omega arith;
-      kinds = omega arith;
-      body = omega arith;
-      meta = omega arith;
-    }
+    let ends = ends (λ id. 0) (input_pairs two_alternatives.items) refl in
+    search (found, ends, arith)
 
 pub valid_picture_with_exif : Valid picture_with_exif
 unfolding layout picture_with_exif
 valid_picture_with_exif =
-    record {
-      brands = search arith;
-      ids_rise = search arith;
-      primary = search found;
-      items = search (found, arith);
-      groups_rise = search arith;
-      groups = search (found, arith);
-      ends = ends (λ id. 0) (input_pairs picture_with_exif.items) refl;
-      count = omega arith;
-      kinds = omega arith;
-      body = omega arith;
-      meta = omega arith;
-    }
+    let ends = ends (λ id. 0) (input_pairs picture_with_exif.items) refl in
+    search (found, ends, arith)
 
 pub valid_picture_with_xmp : Valid picture_with_xmp
 unfolding layout picture_with_xmp
 valid_picture_with_xmp =
-    record {
-      brands = search arith;
-      ids_rise = search arith;
-      primary = search found;
-      items = search (found, arith);
-      groups_rise = search arith;
-      groups = search (found, arith);
-      ends = ends (λ id. 0) (input_pairs picture_with_xmp.items) refl;
-      count = omega arith;
-      kinds = omega arith;
-      body = omega arith;
-      meta = omega arith;
-    }
+    let ends = ends (λ id. 0) (input_pairs picture_with_xmp.items) refl in
+    search (found, ends, arith)
 
 pub valid_picture_with_thumbnail : Valid picture_with_thumbnail
 unfolding layout picture_with_thumbnail
 valid_picture_with_thumbnail =
-    record {
-      brands = search arith;
-      ids_rise = search arith;
-      primary = search found;
-      items = search (found, arith);
-      groups_rise = search arith;
-      groups = search (found, arith);
-      ends = ends (λ id. 0) (input_pairs picture_with_thumbnail.items) refl;
-      count = omega arith;
-      kinds = omega arith;
-      body = omega arith;
-      meta = omega arith;
-    }
+    let ends = ends (λ id. 0) (input_pairs picture_with_thumbnail.items) refl in
+    search (found, ends, arith)
 
 pub valid_every_feature : Valid every_feature
 unfolding layout every_feature

@@ -1,6 +1,7 @@
 pub mod BadStores
 pub mod Derived
 pub mod Hex
+pub mod LargeStores
 pub mod Layout
 pub mod Lists
 pub mod Picks

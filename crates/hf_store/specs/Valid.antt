@@ -21,6 +21,7 @@ body_sum is = sum_by (λ (i : Item). length i.bytes) is
 unfoldable pub meta_len : ItemStore → ℕ
 meta_len s = length (box (four "meta") (meta_body own 8 0 s))
 
+-- a type, brand or handler has four bytes
 abbrev pub IsFour : FourCc → Type 0
 IsFour kind = length kind.0 ≡ 4
 
@@ -28,6 +29,7 @@ IsFour kind = length kind.0 ≡ 4
 abbrev pub IsBelow : FourCc → FourCc → Type 0
 IsBelow a b = slice_cmp nat_cmp a.0 b.0 ≡ Less
 
+-- a string has no zero byte, which ends it in a file
 abbrev pub HasNoZero : List ℕ → Type 0
 HasNoZero bytes = AllByRecursion (λ byte. 0 < byte) bytes
 
@@ -36,6 +38,7 @@ abbrev pub HasBrand : FourCc → List ℕ → Type 0
 HasBrand brand (a ∷ b ∷ c ∷ d ∷ rest) = (brand.0 ≡ a ∷ b ∷ c ∷ d ∷ []) ⊎ HasBrand brand rest
 HasBrand brand _ = ⊥
 
+-- brands of four bytes each, with `mif1` among them
 pub record AreGoodBrands (b : Brands) : Type 0 where
   pub major : IsFour b.major
   pub minor : b.minor < 256 ^ 4
@@ -43,6 +46,7 @@ pub record AreGoodBrands (b : Brands) : Type 0 where
   pub within : length b.compatible ≤ limits.FILE
   pub mif1 : (b.major ≡ four "mif1") ⊎ HasBrand (four "mif1") b.compatible
 
+-- references to some of these items; those of type `iloc` are no part of a store
 pub record IsGoodRef (is : List Item) (r : RefList) : Type 0 where
   pub kind : IsFour r.kind
   pub not_iloc : r.kind ≢ four "iloc"
@@ -50,7 +54,7 @@ pub record IsGoodRef (is : List Item) (r : RefList) : Type 0 where
   pub links : length r.to ≤ limits.LINKS
   pub to : AllByRecursion (λ id. IsIn id (ids_of is)) r.to
 
--- an item among these items
+-- an item among these items: strings without a zero byte, and only the strings that its type has
 pub record IsGoodItem (is : List Item) (i : Item) : Type 0 where
   pub id : i.id < 256 ^ 4
   pub kind : IsFour i.kind
@@ -66,6 +70,7 @@ pub record IsGoodItem (is : List Item) (i : Item) : Type 0 where
   pub kinds_rise : Rises IsBelow (map (λ (r : RefList). r.kind) i.refs)
   pub fits : IsTrue (fits i.kind i.bytes (length (inputs i.refs)))
 
+-- a group of some of these items
 pub record IsGoodGroup (is : List Item) (g : Group) : Type 0 where
   pub kind : IsFour g.kind
   pub version : g.version < 256 ^ 1

@@ -1,5 +1,6 @@
 //! Stores that are not valid, each for one reason. Each is the contract of a function that does nothing.
 
+ghost use Rattle.hf_store.specs.LargeStores.{BodyIsKept, LinksAreKept, MetaIsKept};
 ghost use Rattle.hf_store.specs.Valid.{Valid};
 ghost use Rattle.hf_store.specs.BadStores.{brands_of_five_bytes, content_without_mime, cycle, dangling_reference, empty_reference, grid_cut_short, grid_of_long_sides_cut_short, grid_of_two_with_one, group_of_none, group_of_others, group_of_wide_flags, groups_of_one_id, identity_of_none, ids_of_one, iloc_reference, made_of_itself, mif1_across_brands, overlay_cut_short, primary_of_none, properties_256, references_fall, references_twice, uri_without_uri, without_mif1, zero_id, zero_in_name};
 
@@ -51,4 +52,11 @@ pub fn bad_groups_are_refused()
     ensures not_group_of_none { Valid group_of_none → ⊥ }
     ensures not_group_of_others { Valid group_of_others → ⊥ }
     ensures not_group_of_wide_flags { Valid group_of_wide_flags → ⊥ }
+{}
+
+/// Stores at a limit are valid, and those past it are not.
+pub fn limits_are_kept()
+    ensures meta { MetaIsKept }
+    ensures body { BodyIsKept }
+    ensures links { LinksAreKept }
 {}

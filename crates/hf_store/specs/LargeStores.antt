@@ -1,0 +1,31 @@
+-- Stores at the limits, whatever their bytes are.
+use Rattle.std.specs.Prelude.{ℕ, ◌≡◌, List, [], ◌∷◌, length}
+use Rattle.hf_store.specs.Store.{ItemStore}
+use Rattle.hf_store.specs.WorkedStores.{heic, plain, references}
+use Rattle.hf_store.specs.Valid.{HasNoZero, Valid}
+
+-- one item with this name, and without bytes
+unfoldable pub named : List ℕ → ItemStore
+named name = record { brands = heic; primary = 1; items = record (plain 1 "hvc1" []) { name = name } ∷ []; groups = [] }
+
+-- one item with these bytes
+unfoldable pub picture_of : List ℕ → ItemStore
+picture_of bytes = record { brands = heic; primary = 1; items = plain 1 "hvc1" bytes ∷ []; groups = [] }
+
+-- one item with these references
+unfoldable pub referring_to : List ℕ → ItemStore
+referring_to ids = record { brands = heic; primary = 1; items = record (plain 1 "hvc1" []) { refs = references "cdsc" ids ∷ [] } ∷ []; groups = [] }
+
+-- the longest name that leaves `meta` 2^30 bytes, and one byte more
+abbrev pub MetaIsKept : Type 0
+MetaIsKept =
+    ((name : List ℕ) → HasNoZero name → length name ≡ 1073741682 → Valid (named name))
+    × ((name : List ℕ) → length name ≡ 1073741683 → Valid (named name) → ⊥)
+
+abbrev pub BodyIsKept : Type 0
+BodyIsKept =
+    ((bytes : List ℕ) → length bytes ≡ 1073741824 → Valid (picture_of bytes))
+    × ((bytes : List ℕ) → length bytes ≡ 1073741825 → Valid (picture_of bytes) → ⊥)
+
+abbrev pub LinksAreKept : Type 0
+LinksAreKept = (ids : List ℕ) → length ids ≡ 65536 → Valid (referring_to ids) → ⊥
