@@ -1,6 +1,72 @@
-//! The box types of ISO/IEC 14496-12 and ISO/IEC 23008-12 that are looked for.
+//! The types of boxes, handlers, brands and items of ISO/IEC 14496-12 and ISO/IEC 23008-12 that are looked for.
 
 use crate::four::FourCc;
 
+/// The box of the brands: `FileTypeBox` of ISO/IEC 14496-12.
+pub const FTYP: FourCc = FourCc(*b"ftyp");
+
+/// The box of a movie: `MovieBox` of ISO/IEC 14496-12.
+pub const MOOV: FourCc = FourCc(*b"moov");
+
+/// A part of a movie: `MovieFragmentBox` of ISO/IEC 14496-12.
+pub const MOOF: FourCc = FourCc(*b"moof");
+
 /// The box of the items: `MetaBox` of ISO/IEC 14496-12.
 pub const META: FourCc = FourCc(*b"meta");
+
+/// The box that says what `meta` is of: `HandlerBox` of ISO/IEC 14496-12.
+pub const HDLR: FourCc = FourCc(*b"hdlr");
+
+/// The box of the primary item's id: `PrimaryItemBox` of ISO/IEC 14496-12.
+pub const PITM: FourCc = FourCc(*b"pitm");
+
+/// The box of the entries on items: `ItemInfoBox` of ISO/IEC 14496-12.
+pub const IINF: FourCc = FourCc(*b"iinf");
+
+/// An entry on an item: `ItemInfoEntry` of ISO/IEC 14496-12.
+pub const INFE: FourCc = FourCc(*b"infe");
+
+/// Where the bytes of items lie: `ItemLocationBox` of ISO/IEC 14496-12.
+pub const ILOC: FourCc = FourCc(*b"iloc");
+
+/// References between items: `ItemReferenceBox` of ISO/IEC 14496-12.
+pub const IREF: FourCc = FourCc(*b"iref");
+
+/// Properties of items: `ItemPropertiesBox` of ISO/IEC 14496-12.
+pub const IPRP: FourCc = FourCc(*b"iprp");
+
+/// Groups of items: `GroupsListBox` of ISO/IEC 14496-12.
+pub const GRPL: FourCc = FourCc(*b"grpl");
+
+/// Bytes of items: `ItemDataBox` of ISO/IEC 14496-12.
+pub const IDAT: FourCc = FourCc(*b"idat");
+
+/// Protection of items: `ItemProtectionBox` of ISO/IEC 14496-12.
+pub const IPRO: FourCc = FourCc(*b"ipro");
+
+/// A text: `XMLBox` of ISO/IEC 14496-12.
+pub const XML: FourCc = FourCc(*b"xml ");
+
+/// A text in bytes: `BinaryXMLBox` of ISO/IEC 14496-12.
+pub const BXML: FourCc = FourCc(*b"bxml");
+
+/// The handler type of pictures (ISO/IEC 23008-12).
+pub const PICT: FourCc = FourCc(*b"pict");
+
+/// The brand of image files: ISO/IEC 23008-12.
+pub const MIF1: FourCc = FourCc(*b"mif1");
+
+/// The type of an item with a content type: ISO/IEC 14496-12.
+pub const MIME: FourCc = FourCc(*b"mime");
+
+/// The type of an item whose type is a URI: ISO/IEC 14496-12.
+pub const URI: FourCc = FourCc(*b"uri ");
+
+/// The type of an image made of tiles: ISO/IEC 23008-12.
+pub const GRID: FourCc = FourCc(*b"grid");
+
+/// The type of an image made of others that lie over each other: ISO/IEC 23008-12.
+pub const IOVL: FourCc = FourCc(*b"iovl");
+
+/// The type of an image that is another one, changed by its properties: ISO/IEC 23008-12.
+pub const IDEN: FourCc = FourCc(*b"iden");
