@@ -1,6 +1,5 @@
 pub mod BadStores
 pub mod Derived
-pub mod Hex
 pub mod Layout
 pub mod Lists
 pub mod Picks
