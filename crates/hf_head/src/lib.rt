@@ -9,3 +9,6 @@ mod pitm;
 pub use ftyp::{Brands, put_ftyp, read_ftyp};
 pub use hdlr::{put_hdlr, read_hdlr};
 pub use pitm::{put_pitm, read_pitm};
+
+#[cfg(test)]
+mod tests;
