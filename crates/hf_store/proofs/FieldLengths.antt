@@ -7,8 +7,13 @@ use Rattle.hf_base.specs.NumberLaws.{length-num}
 use Rattle.hf_base.specs.Reading.{full as full_box}
 use Rattle.hf_box.specs.Head.{box_len}
 use Rattle.hf_box.specs.Walk.{is_kind}
-use Rattle.hf_store.specs.Store.{four, Brands, Prop, Held, Item, Group, ItemStore}
-use Rattle.hf_store.specs.Layout.{bit, is_wide, id_width, id_version, box_if_any, reference_boxes, iprp_body, group_box, idat_body, meta_front, zero_ended, zero_ended_if_any, ftyp_body, hdlr_body, pitm_body, infe_body, infe_box, iinf_body, reference_body, is_long_table, association, ipma_entry, has_props, ipma_body, group_body}
+use Rattle.hf_store.specs.Store.{Prop, Held, Item, Group, ItemStore}
+use Rattle.hf_box.specs.Literals.{four}
+use Rattle.hf_head.specs.Ftyp.{Brands, ftyp_body}
+use Rattle.hf_store.specs.Layout.{is_wide, box_if_any, reference_boxes, iprp_body, group_box, idat_body, meta_front, zero_ended_if_any, infe_body, infe_box, iinf_body, reference_body, is_long_table, association, ipma_entry, has_props, ipma_body, group_body}
+use Rattle.hf_box.specs.Written.{bit, id_width, id_version, zero_ended}
+use Rattle.hf_head.specs.Hdlr.{hdlr_body}
+use Rattle.hf_head.specs.Pitm.{pitm_body}
 use Rattle.hf_store.proofs.BoxLengths.{length-box}
 
 pub length-ftyp_body : (b : Brands) → length b.major.0 ≡ 4 → length (ftyp_body b) ≡ 8 + length b.compatible

@@ -2,14 +2,18 @@
 use Rattle.std.specs.List.{flat_map}
 use Rattle.hf_base.specs.Reading.{full as full_box}
 use Rattle.hf_box.specs.Head.{box_len, box}
-use Rattle.hf_store.specs.Store.{four, Item}
+use Rattle.hf_store.specs.Store.{Item}
+use Rattle.hf_box.specs.Literals.{four}
 use Rattle.hf_store.specs.WorkedStores.{plain}
 use Rattle.hf_store.proofs.BoxLengths.{length-box, box_len-short}
 use Rattle.hf_store.proofs.FieldLengths.{strings_len, length-infe_body, length-iinf_body, length-meta_front}
 use Rattle.hf_store.proofs.Lengths.{meta_body_len, meta_len-is}
 use Rattle.std.proofs.Common.{◌≡◌, ℕ, ◌+◌, ◌<◌, ◌≤◌, ◌*◌, ◌^◌, ap, ◌∙◌, true, false, List, [], ◌∷◌, length, length-append, refl, arith}
 use Rattle.hf_store.specs.Derived.{input_pairs}
-use Rattle.hf_store.specs.Layout.{has_bytes, is_wide, id_width, id_version, with_bytes, hdlr_body, pitm_body, infe_body, iinf_body, iprp_body, box_if_any, reference_boxes, group_box, idat_body}
+use Rattle.hf_store.specs.Layout.{has_bytes, is_wide, with_bytes, infe_body, iinf_body, iprp_body, box_if_any, reference_boxes, group_box, idat_body}
+use Rattle.hf_box.specs.Written.{id_width, id_version}
+use Rattle.hf_head.specs.Hdlr.{hdlr_body}
+use Rattle.hf_head.specs.Pitm.{pitm_body}
 use Rattle.hf_store.specs.Table.{table_of}
 use Rattle.hf_store.specs.Valid.{body_sum, meta_len, HasNoZero, Valid}
 use Rattle.hf_store.specs.LargeStores.{named, picture_of, referring_to, MetaIsKept, BodyIsKept, LinksAreKept}

@@ -1,6 +1,5 @@
 pub mod BadStores
 pub mod Derived
-pub mod Hex
 pub mod LargeStores
 pub mod Layout
 pub mod Lists

@@ -1,0 +1,14 @@
+//! The records at the head of a file: its brands, its handler and the id of its primary item.
+#![tactic(auto)]
+
+mod ftyp;
+mod hdlr;
+pub mod laws;
+mod pitm;
+
+pub use ftyp::{Brands, put_ftyp, read_ftyp};
+pub use hdlr::{put_hdlr, read_hdlr};
+pub use pitm::{put_pitm, read_pitm};
+
+#[cfg(test)]
+mod tests;
