@@ -3,4 +3,5 @@ pub mod Homes
 pub mod Large
 pub mod Laws
 pub mod Lay
+pub mod LongOffsets
 pub mod Places
