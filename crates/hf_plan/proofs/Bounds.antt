@@ -19,7 +19,8 @@ use Rattle.hf_store.specs.Valid.{body_sum, IsGoodRef, IsGoodItem, IsGoodGroup, V
 use Rattle.hf_store.proofs.BoxLengths.{le-box, le-box_len, box_len-le}
 use Rattle.hf_store.proofs.FieldLengths.{length-ftyp_body, length-nums}
 use Rattle.hf_store.proofs.Lengths.{meta_body_len, meta_len-is}
-use Rattle.hf_plan.specs.Lay.{IsWrittenRef, IsWrittenNumber, IsWrittenItem, IsWrittenGroup, IsWrittenExtent, IsWritten, Lay}
+use Rattle.hf_plan.specs.Homes.{AreHomes}
+use Rattle.hf_plan.specs.Lay.{IsWrittenRef, IsWrittenNumber, IsWrittenItem, IsWrittenGroup, IsWrittenExtent, IsWritten, LayBy}
 use Rattle.hf_plan.proofs.Lengths.{file_len, length-laid}
 
 -- ---- ids
@@ -160,14 +161,20 @@ all_where P p (i ∷ is) each =
       | inr not_here ↦ rw not_here rest
     ]
 
+-- each data item may be its own home
+pub own_homes : AreHomes own
+own_homes is i among data_item = record { at = i; among = among; data_item = data_item; itself = refl; found = refl; same = refl }
+
 -- an item with bytes has them in idat or in mdat
-bytes-placed : (is : List Item) (i : Item) → IsIn i is → has_bytes i.bytes ≡ true → length i.bytes ≤ length (idat_body is) + length (bytes_in (filter is_data_item is))
-bytes-placed is i among some =
+bytes-placed : (home : Homes) → AreHomes home → (is : List Item) (i : Item) → IsIn i is → has_bytes i.bytes ≡ true → length i.bytes ≤ length (idat_body is) + length (mdat_body home is)
+bytes-placed home homes is i among some =
     elim (cases_Bool (in_idat i)) [
       | inl here ↦ omega (arith, bytes-of_one in_idat is i among here)
       | inr not_here ↦
-          let passes : is_data_item i ≡ true = and_from (has_bytes i.bytes) (not (in_idat i)) some (ap not not_here) in
-          omega (arith, bytes-of_one is_data_item is i among passes)
+          let data_item : is_data_item i ≡ true = and_from (has_bytes i.bytes) (not (in_idat i)) some (ap not not_here) in
+          let h = homes is i among data_item in
+          let passes : (is_data_item h.at && (home is h.at == h.at.id)) ≡ true = and_from (is_data_item h.at) (home is h.at == h.at.id) h.data_item (eq-eqb _ _ h.itself) in
+          omega (arith, ap length h.same, bytes-of_one (λ (j : Item). is_data_item j && (home is j == j.id)) is h.at h.among passes)
     ]
 
 idat_offset-le : (is : List Item) (i : Item) → idat_offset is i ≤ length (idat_body is)
@@ -203,13 +210,10 @@ groups-few : (s : ItemStore) → Valid s → length (flat_map group_box s.groups
 unfolding meta_body_len
 groups-few s valid = omega (arith, groups-le-front s, valid.meta, meta_len-is s, le-box_len (meta_body_len 8 s))
 
--- each data item is its own home
-own-written : (is : List Item) → length (bytes_in (filter is_data_item is)) ≤ length (mdat_body own is)
-own-written is = bytes-more is_data_item (λ (i : Item). is_data_item i && (i.id == i.id)) is (λ i e. and_from (is_data_item i) (i.id == i.id) e (eq-eqb i.id i.id refl))
-
 -- in a file that is long enough for the bytes of all items
-pub written_valid : (w end : ℕ) (s : ItemStore) → Valid s → end < 256 ^ w → end < 256 ^ 8 → length (idat_body s.items) + length (mdat_body own s.items) ≤ end → IsWritten own w end s
-written_valid w end s valid fits small room =
+pub written_valid : (home : Homes) → AreHomes home → (w end : ℕ) (s : ItemStore) → Valid s → end < 256 ^ w → end < 256 ^ 8 → length (idat_body s.items) + length (mdat_body home s.items) ≤ end
+    → IsWritten home w end s
+written_valid home homes w end s valid fits small room =
     let below = ids_below s.items valid.items in
     record {
       minor = valid.brands.minor;
@@ -217,19 +221,19 @@ written_valid w end s valid fits small room =
       count = count_fits s valid;
       items = items_fit (is_wide s.items) (table_of s) s.items s.items valid.kinds below below valid.items;
       groups = groups_fit s.items s.groups (good_below s.items s.items valid.items) (groups-few s valid) valid.groups;
-      extents = extents_fit own w end s.items fits (omega (arith, room)) (λ i among some. omega (arith, room, bytes-placed s.items i among some, own-written s.items));
+      extents = extents_fit home w end s.items fits (omega (arith, room)) (λ i among some. omega (arith, room, bytes-placed home homes s.items i among some));
       size = small;
     }
 
-pub lays : (w : ℕ) (s : ItemStore) → Valid s → file_len own w s < 256 ^ w → file_len own w s < 256 ^ 8 → Lay s w (laid own w (file_len own w s) s)
+pub lays : (home : Homes) → AreHomes home → (w : ℕ) (s : ItemStore) → Valid s → file_len home w s < 256 ^ w → file_len home w s < 256 ^ 8 → LayBy home s w (laid home w (file_len home w s) s)
 unfolding file_len meta_body_len
-lays w s valid fits small =
-    let len : length (laid own w (file_len own w s) s) ≡ file_len own w s = length-laid own w (file_len own w s) s in
-    let room : length (idat_body s.items) + length (mdat_body own s.items) ≤ file_len own w s =
-    omega (arith, idat-le-front s, le-box_len (meta_body_len w s), le-box_len (length (mdat_body own s.items)))
+lays home homes w s valid fits small =
+    let len : length (laid home w (file_len home w s) s) ≡ file_len home w s = length-laid home w (file_len home w s) s in
+    let room : length (idat_body s.items) + length (mdat_body home s.items) ≤ file_len home w s =
+    omega (arith, idat-le-front s, le-box_len (meta_body_len w s), le-box_len (length (mdat_body home s.items)))
     in
     record {
-      numbers = rw len (written_valid w (file_len own w s) s valid fits small room);
+      numbers = rw len (written_valid home homes w (file_len home w s) s valid fits small room);
       bytes = rw len refl;
     }
 
@@ -249,10 +253,10 @@ bytes-part p (i ∷ is) =
       | inr not_here ↦ rw not_here (simp length-append (omega (arith, rest)))
     ]
 
-pub file_len-bound : (s : ItemStore) → Valid s → file_len own 8 s < 2 ^ 63
+pub file_len-bound : (home : Homes) (s : ItemStore) → Valid s → file_len home 8 s < 2 ^ 63
 unfolding file_len
-file_len-bound s valid =
-    let payload : length (mdat_body own s.items) ≤ body_sum s.items =
-    omega (arith, body_sum-is s.items, bytes-part (λ (i : Item). is_data_item i && (i.id == i.id)) s.items)
+file_len-bound home s valid =
+    let payload : length (mdat_body home s.items) ≤ body_sum s.items =
+    omega (arith, body_sum-is s.items, bytes-part (λ (i : Item). is_data_item i && (home s.items i == i.id)) s.items)
     in
-    omega (arith, payload, meta_len-is s, valid.meta, valid.body, valid.brands.within, length-ftyp_body s.brands valid.brands.major, box_len-le (length (ftyp_body s.brands)), box_len-le (length (mdat_body own s.items)))
+    omega (arith, payload, meta_len-is s, valid.meta, valid.body, valid.brands.within, length-ftyp_body s.brands valid.brands.major, box_len-le (length (ftyp_body s.brands)), box_len-le (length (mdat_body home s.items)))

@@ -10,12 +10,12 @@ use Rattle.hf_store.specs.WorkedTables.{file_of_properties_127, file_of_properti
 use Rattle.hf_store.proofs.ValidStores.{layout, valid_one_picture, valid_one_empty_item, valid_greatest_narrow_id, valid_least_wide_id, valid_two_widths, valid_turned_picture, valid_sized_picture, valid_properties_127, valid_properties_128, valid_properties_300, valid_identity_item, valid_overlays, valid_two_alternatives, valid_picture_with_exif, valid_picture_with_xmp, valid_picture_with_thumbnail, valid_every_feature, valid_every_feature_wide, valid_photograph, valid_photograph_redacted, valid_photograph_bare}
 use Rattle.hf_store.proofs.LaidFiles.{laid_one_picture, laid_one_empty_item, laid_greatest_narrow_id, laid_least_wide_id, laid_two_widths, laid_turned_picture, laid_sized_picture, laid_properties_127, laid_properties_128, laid_properties_300, laid_identity_item, laid_overlays, laid_two_alternatives, laid_picture_with_exif, laid_picture_with_xmp, laid_picture_with_thumbnail, laid_every_feature, laid_every_feature_wide, laid_photograph, laid_photograph_redacted, laid_photograph_bare}
 use Rattle.hf_plan.specs.Canon.{Canon}
-use Rattle.hf_plan.proofs.Bounds.{written_valid}
+use Rattle.hf_plan.proofs.Bounds.{own_homes, written_valid}
 
 -- a layout in a file that has room for all bytes
 canon_laid : (s : ItemStore) (F : List ℕ) (n : ℕ) → Valid s → laid own 4 n s ≡ F → length F ≡ n → n < 256 ^ 4 → length (idat_body s.items) + length (mdat_body own s.items) ≤ n → Canon s F
 canon_laid s F n valid bytes len few room =
-    inl (record { numbers = rw len (written_valid 4 n s valid few (omega (arith, few)) room); bytes = rw len (sym bytes) }, omega (arith, len, few))
+    inl (record { numbers = rw len (written_valid own own_homes 4 n s valid few (omega (arith, few)) room); bytes = rw len (sym bytes) }, omega (arith, len, few))
 
 pub canon_one_picture : Canon one_picture file_of_one_picture
 unfolding layout one_picture file_of_one_picture

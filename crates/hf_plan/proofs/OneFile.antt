@@ -2,16 +2,19 @@
 use Rattle.std.proofs.Common.{◌≡◌, ℕ, ◌+◌, ◌*◌, ◌^◌, ◌<◌, List, [], ◌∷◌, length, length-append, refl, ap, arith, inl, inr}
 use Rattle.std.proofs.lemmas.Bool.{cases_lt}
 use Rattle.hf_box.specs.Head.{box_len}
-use Rattle.hf_store.specs.Store.{Item}
+use Rattle.hf_store.specs.Store.{Item, ItemStore}
+use Rattle.hf_store.specs.Layout.{Homes, own, is_wide, with_bytes, bytes_in, meta_front, laid}
 use Rattle.hf_box.specs.Written.{id_width}
-use Rattle.hf_store.specs.Layout.{own, is_wide, with_bytes, bytes_in, meta_front, laid}
 use Rattle.hf_store.proofs.Finds.{some_has, none_has}
+use Rattle.hf_store.specs.Valid.{Valid}
 use Rattle.hf_store.proofs.BoxLengths.{box_len-lt}
 use Rattle.hf_store.proofs.Lengths.{meta_body_len}
-use Rattle.hf_plan.specs.Lay.{Lay}
+use Rattle.hf_plan.specs.Lay.{LayBy}
+use Rattle.hf_plan.specs.Canon.{CanonBy}
+use Rattle.hf_plan.specs.Homes.{AreHomes}
 use Rattle.hf_plan.specs.Laws.{HasCanon, OneCanon, NarrowIsShorter, NarrowIsAsLong}
 use Rattle.hf_plan.proofs.Lengths.{file_len, length-laid, length-LayBy, LayBy-one}
-use Rattle.hf_plan.proofs.Bounds.{lays, file_len-bound, body_sum-is}
+use Rattle.hf_plan.proofs.Bounds.{own_homes, lays, file_len-bound, body_sum-is}
 
 some_with : (is : List Item) → 0 < length (bytes_in is) → 0 < length (with_bytes is)
 unfolding bytes_in
@@ -29,23 +32,30 @@ none_with (i ∷ is) h =
     let sum = length-append i.bytes (bytes_in is) in
     rw (none_has i.bytes (omega (arith, sum))) (none_with is (omega (arith, sum)))
 
-pub has_canon : HasCanon
-has_canon s valid =
-    let bound = file_len-bound s valid in
-    elim (cases_lt (file_len own 4 s) (2 ^ 32)) [
+-- wherever each data item has a home
+pub has_canon_by : (home : Homes) → AreHomes home → (s : ItemStore) → Valid s → (F : List ℕ) × CanonBy home s F
+has_canon_by home homes s valid =
+    let bound = file_len-bound home s valid in
+    elim (cases_lt (file_len home 4 s) (2 ^ 32)) [
       | inl short ↦
-          let lay : Lay s 4 (laid own 4 (file_len own 4 s) s) = lays 4 s valid short (omega arith) in
-          (laid own 4 (file_len own 4 s) s, inl (lay, omega (arith, length-laid own 4 (file_len own 4 s) s)))
+          let lay : LayBy home s 4 (laid home 4 (file_len home 4 s) s) = lays home homes 4 s valid short (omega arith) in
+          (laid home 4 (file_len home 4 s) s, inl (lay, omega (arith, length-laid home 4 (file_len home 4 s) s)))
       | inr long ↦
-          let lay : Lay s 8 (laid own 8 (file_len own 8 s) s) = lays 8 s valid (omega (arith, bound)) (omega (arith, bound)) in
-          (laid own 8 (file_len own 8 s) s, inr ((λ G short. omega (arith, length-LayBy own s 4 G short.0, short.1)), lay))
+          let lay : LayBy home s 8 (laid home 8 (file_len home 8 s) s) = lays home homes 8 s valid (omega (arith, bound)) (omega (arith, bound)) in
+          (laid home 8 (file_len home 8 s) s, inr ((λ G short. omega (arith, length-LayBy home s 4 G short.0, short.1)), lay))
     ]
 
+pub one_canon_by : (home : Homes) (s : ItemStore) (F G : List ℕ) → CanonBy home s F → CanonBy home s G → F ≡ G
+one_canon_by home s F G (inl f) (inl g) = LayBy-one home s 4 F G f.0 g.0
+one_canon_by home s F G (inl f) (inr g) = absurd (g.0 F f)
+one_canon_by home s F G (inr f) (inl g) = absurd (f.0 G g)
+one_canon_by home s F G (inr f) (inr g) = LayBy-one home s 8 F G f.1 g.1
+
+pub has_canon : HasCanon
+has_canon = has_canon_by own own_homes
+
 pub one_canon : OneCanon
-one_canon s F G (inl f) (inl g) = LayBy-one own s 4 F G f.0 g.0
-one_canon s F G (inl f) (inr g) = absurd (g.0 F f)
-one_canon s F G (inr f) (inl g) = absurd (f.0 G g)
-one_canon s F G (inr f) (inr g) = LayBy-one own s 8 F G f.1 g.1
+one_canon = one_canon_by own
 
 pub narrow_is_shorter : NarrowIsShorter
 unfolding file_len meta_body_len

@@ -9,9 +9,13 @@ use Rattle.hf_box.specs.Head.{box_head, box}
 use Rattle.hf_store.specs.Lists.{IsIn, RisesFrom}
 use Rattle.hf_store.specs.Store.{Item, ItemStore, ids_of}
 use Rattle.hf_box.specs.Literals.{four}
+use Rattle.hf_store.specs.Valid.{Valid}
+use Rattle.hf_store.specs.Layout.{offset_of, own, has_bytes, Homes, in_idat, is_data_item, bytes_in, mdat_body, idat_body, mdat_offset, idat_offset, meta_body, laid}
 use Rattle.hf_head.specs.Ftyp.{ftyp_body}
-use Rattle.hf_store.specs.Layout.{Homes, own, has_bytes, in_idat, is_data_item, bytes_in, mdat_body, idat_body, mdat_offset, idat_offset, meta_body, laid}
-use Rattle.hf_plan.specs.Places.{StandsAt, BytesStand}
+use Rattle.hf_plan.specs.Homes.{AreHomes}
+use Rattle.hf_plan.specs.Lay.{LayBy}
+use Rattle.hf_plan.proofs.Bounds.{own_homes}
+use Rattle.hf_plan.specs.Places.{source_of, StandsAt, BytesStand}
 
 -- ---- an item among others, whose ids rise
 
@@ -183,11 +187,17 @@ unfolding laid box
 ends_with_mdat home w end s =
     sym (append_assoc (box (four "ftyp") (ftyp_body s.brands) ++ box (four "meta") (meta_body home w end s)) (box_head (four "mdat") (length (mdat_body home s.items))) (mdat_body home s.items))
 
-pub bytes_stand : BytesStand
-bytes_stand s w F i valid lay among some =
+-- wherever each data item has a home
+pub bytes_stand_by : (home : Homes) → AreHomes home → (s : ItemStore) (w : ℕ) (F : List ℕ) (i : Item) → Valid s → LayBy home s w F → IsIn i s.items → has_bytes i.bytes ≡ true
+    → StandsAt (offset_of home (length F) s.items i) i.bytes (source_of F s.items i)
+bytes_stand_by home homes s w F i valid lay among some =
     elim (cases_Bool (in_idat i)) [
       | inl inside ↦ rw inside (stands_in_idat s.items 0 i valid.ids_rise among inside)
       | inr outside ↦
           let data_item : is_data_item i ≡ true = and_from (has_bytes i.bytes) (not (in_idat i)) some (ap not outside) in
-          rw outside (stands_at_home own F _ s.items 0 i i (lay.bytes ∙ ends_with_mdat own w (length F) s) valid.ids_rise among data_item refl refl refl)
+          let h = homes s.items i among data_item in
+          rw outside (stands_at_home home F _ s.items 0 i h.at (lay.bytes ∙ ends_with_mdat home w (length F) s) valid.ids_rise h.among h.data_item h.itself h.found h.same)
     ]
+
+pub bytes_stand : BytesStand
+bytes_stand = bytes_stand_by own own_homes

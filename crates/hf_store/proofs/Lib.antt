@@ -5,6 +5,7 @@ pub mod Finds
 pub mod LaidFiles
 pub mod LargeStores
 pub mod Lengths
+pub mod References
 pub mod RefusedStores
 pub mod Tables
 pub mod ValidStores

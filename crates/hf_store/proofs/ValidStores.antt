@@ -90,9 +90,9 @@ valid_properties_300 =
       brands = search arith;
       ids_rise = search arith;
       primary = search found;
-      items = search (found, arith);
+      items = search arith;
       groups_rise = search arith;
-      groups = search (found, arith);
+      groups = search arith;
       ends = ends (λ id. 0) (input_pairs properties_300.items) refl;
       count = omega arith;
       kinds = omega arith;
@@ -179,7 +179,7 @@ valid_photograph =
       primary = search found;
       items = let there = all_found (ids_of photograph.items) (range_with_len 1 48) refl in good_tiles photograph.items (range_with_len 1 48) (tiles ∷ thumbnail ∷ exif ∷ xmp ∷ []) (search arith) (search (there, found, arith), (search (found, arith), (search (found, arith), (search (found, arith), tt))));
       groups_rise = search arith;
-      groups = search (found, arith);
+      groups = search arith;
       ends = ends (λ id. if id == 49 then 1 else 0) (input_pairs photograph.items) refl;
       count = omega arith;
       kinds = omega arith;
@@ -196,7 +196,7 @@ valid_photograph_redacted =
       primary = search found;
       items = let there = all_found (ids_of photograph_redacted.items) (range_with_len 1 48) refl in good_tiles photograph_redacted.items (range_with_len 1 48) (record tiles { name = [] } ∷ thumbnail ∷ []) (search arith) (search (there, found, arith), (search (found, arith), tt));
       groups_rise = search arith;
-      groups = search (found, arith);
+      groups = search arith;
       ends = ends (λ id. if id == 49 then 1 else 0) (input_pairs photograph_redacted.items) refl;
       count = omega arith;
       kinds = omega arith;
@@ -213,7 +213,7 @@ valid_photograph_bare =
       primary = search found;
       items = let there = all_found (ids_of photograph_bare.items) (range_with_len 1 48) refl in good_tiles photograph_bare.items (range_with_len 1 48) (record tiles { name = [] } ∷ []) (search arith) (search (there, found, arith), tt);
       groups_rise = search arith;
-      groups = search (found, arith);
+      groups = search arith;
       ends = ends (λ id. if id == 49 then 1 else 0) (input_pairs photograph_bare.items) refl;
       count = omega arith;
       kinds = omega arith;

@@ -188,7 +188,7 @@ idat_offset is i = length (bytes_in (filter (λ (j : Item). in_idat j && nat_lt 
 abbrev pub offset_of : Homes → ℕ → List Item → Item → ℕ
 offset_of home file_len is i = if in_idat i then idat_offset is i else mdat_offset home file_len is i
 
--- construction method 1 counts offsets from the body of `idat`, method 0 from the begin of the file
+-- construction method 1 counts offsets from the body of `idat`, method 0 from the beginning of the file
 abbrev pub method_of : Item → ℕ
 method_of i = bit (in_idat i)
 

@@ -4,6 +4,7 @@ pub mod LargeStores
 pub mod Layout
 pub mod Lists
 pub mod Picks
+pub mod References
 pub mod Store
 pub mod Table
 pub mod Valid

@@ -268,29 +268,64 @@ properties_300 = record {
 
 -- a tile of the photograph: 512 by 512
 abbrev pub tile : ℕ → Item
-tile id = record (plain id "hvc1" (replicate (100 + id) id)) { hidden = true; props = essential "hvcC" (hex_of "01020304") ∷ optional "ispe" (hex_of "00000000 00000200 00000200") ∷ [] }
+tile id =
+    record (plain id "hvc1" (replicate (100 + id) id)) {
+      hidden = true;
+      props = essential "hvcC" (hex_of "01020304") ∷ optional "ispe" (hex_of "00000000 00000200 00000200") ∷ [];
+    }
 
 -- 48 tiles, in rows of eight
 abbrev pub tiles : Item
-tiles = record (plain 49 "grid" (hex_of "00000507 0fc00bd0")) { name = codes "IMG_0001"; props = optional "ispe" (hex_of "00000000 00000fc0 00000bd0") ∷ essential "irot" (hex_of "00") ∷ []; refs = references "dimg" (range_with_len 1 48) ∷ [] }
+tiles =
+    record (plain 49 "grid" (hex_of "00000507 0fc00bd0")) {
+      name = codes "IMG_0001";
+      props = optional "ispe" (hex_of "00000000 00000fc0 00000bd0") ∷ essential "irot" (hex_of "00") ∷ [];
+      refs = references "dimg" (range_with_len 1 48) ∷ [];
+    }
 
 abbrev pub thumbnail : Item
-thumbnail = record (plain 50 "hvc1" (replicate 200 0x32)) { props = essential "hvcC" (hex_of "05060708") ∷ optional "ispe" (hex_of "00000000 00000140 000000f0") ∷ []; refs = references "thmb" (49 ∷ []) ∷ [] }
+thumbnail =
+    record (plain 50 "hvc1" (replicate 200 0x32)) {
+      props = essential "hvcC" (hex_of "05060708") ∷ optional "ispe" (hex_of "00000000 00000140 000000f0") ∷ [];
+      refs = references "thmb" (49 ∷ []) ∷ [];
+    }
 
 abbrev pub exif : Item
-exif = record (plain 51 "Exif" (hex_of "00000000 45454545 45454545 45454545 45454545")) { refs = references "cdsc" (49 ∷ []) ∷ [] }
+exif =
+    record (plain 51 "Exif" (hex_of "00000000 45454545 45454545 45454545 45454545")) {
+      refs = references "cdsc" (49 ∷ []) ∷ [];
+    }
 
 abbrev pub xmp : Item
-xmp = record (plain 52 "mime" (replicate 30 0x58)) { content = codes "application/rdf+xml"; refs = references "cdsc" (49 ∷ []) ∷ [] }
+xmp =
+    record (plain 52 "mime" (replicate 30 0x58)) {
+      content = codes "application/rdf+xml";
+      refs = references "cdsc" (49 ∷ []) ∷ [];
+    }
 
 -- a photograph as a phone makes it
 unfoldable pub photograph : ItemStore
-photograph = record { brands = heic; primary = 49; items = map tile (range_with_len 1 48) ++ tiles ∷ thumbnail ∷ exif ∷ xmp ∷ []; groups = [] }
+photograph = record {
+  brands = heic;
+  primary = 49;
+  items = map tile (range_with_len 1 48) ++ tiles ∷ thumbnail ∷ exif ∷ xmp ∷ [];
+  groups = [];
+}
 
 -- the same without its metadata, and without the name
 unfoldable pub photograph_redacted : ItemStore
-photograph_redacted = record { brands = heic; primary = 49; items = map tile (range_with_len 1 48) ++ record tiles { name = [] } ∷ thumbnail ∷ []; groups = [] }
+photograph_redacted = record {
+  brands = heic;
+  primary = 49;
+  items = map tile (range_with_len 1 48) ++ record tiles { name = [] } ∷ thumbnail ∷ [];
+  groups = [];
+}
 
 -- and without the thumbnail
 unfoldable pub photograph_bare : ItemStore
-photograph_bare = record { brands = heic; primary = 49; items = map tile (range_with_len 1 48) ++ record tiles { name = [] } ∷ []; groups = [] }
+photograph_bare = record {
+  brands = heic;
+  primary = 49;
+  items = map tile (range_with_len 1 48) ++ record tiles { name = [] } ∷ [];
+  groups = [];
+}

@@ -38,13 +38,13 @@ pub fn references_are_valid()
 {}
 
 /// Every feature at once.
-pub fn every_are_valid()
+pub fn every_feature_is_valid()
     ensures narrow { Valid every_feature }
     ensures wide { Valid every_feature_wide }
 {}
 
 /// A photograph with 48 tiles, and what is left of it after both kinds of redaction.
-pub fn photograph_are_valid()
+pub fn photograph_is_valid()
     ensures whole { Valid photograph }
     ensures redacted { Valid photograph_redacted }
     ensures bare { Valid photograph_bare }
@@ -79,13 +79,13 @@ pub fn references_are_laid()
 {}
 
 /// Every feature at once. Files of 1,121 and 1,266 bytes.
-pub fn every_are_laid()
+pub fn every_feature_is_laid()
     ensures narrow { laid own 4 1121 every_feature ≡ file_of_every_feature }
     ensures wide { laid own 4 1266 every_feature_wide ≡ file_of_every_feature_wide }
 {}
 
 /// A photograph with 48 tiles, and what is left of it after both kinds of redaction. Files of 8,852, 8,672 and 8,384 bytes.
-pub fn photograph_are_laid()
+pub fn photograph_is_laid()
     ensures whole { laid own 4 8852 photograph ≡ file_of_photograph }
     ensures redacted { laid own 4 8672 photograph_redacted ≡ file_of_photograph_redacted }
     ensures bare { laid own 4 8384 photograph_bare ≡ file_of_photograph_bare }
