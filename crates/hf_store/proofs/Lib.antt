@@ -3,6 +3,8 @@ pub mod Ends
 pub mod Finds
 pub mod LaidFiles
 pub mod Lengths
+pub mod PlainLengths
 pub mod RefusedStores
+pub mod Removals
 pub mod Tables
 pub mod ValidStores

@@ -1,9 +1,11 @@
 pub mod BadStores
+pub mod Changes
 pub mod Derived
 pub mod Hex
 pub mod Layout
 pub mod Lists
 pub mod Picks
+pub mod Plain
 pub mod Store
 pub mod Table
 pub mod Valid

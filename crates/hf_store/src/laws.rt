@@ -1,5 +1,6 @@
 //! Laws of the item store. Each is the contract of a function that does nothing.
 
+ghost use Rattle.hf_store.specs.Changes.{StepsKeepValidity, StepsKeepPlain};
 ghost use Rattle.hf_store.specs.Picks.{NumbersSelect, SelectsOnce};
 
 /// The property numbers of a canonical file select the properties of each item, in order, and
@@ -7,4 +8,10 @@ ghost use Rattle.hf_store.specs.Picks.{NumbersSelect, SelectsOnce};
 pub fn property_numbers_select()
     ensures selects { NumbersSelect }
     ensures once { SelectsOnce }
+{}
+
+/// An edit against which there is no reason leaves a plain store valid and plain.
+pub fn steps_keep_validity()
+    ensures valid { StepsKeepValidity }
+    ensures plain { StepsKeepPlain }
 {}

@@ -3,4 +3,7 @@
 
 pub mod broken;
 pub mod laws;
+mod reason;
 pub mod worked;
+
+pub use reason::Reason;
