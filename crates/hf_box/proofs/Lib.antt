@@ -1,3 +1,4 @@
+pub mod SameKinds
 pub mod Loop
 pub mod Box
 pub mod Spelled

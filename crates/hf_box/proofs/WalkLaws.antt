@@ -3,8 +3,7 @@ use Rattle.std.proofs.Common.{◌≡◌, ℕ, ◌+◌, true, false, List, [], �
 use Rattle.std.specs.Prelude.{◌↔◌}
 use Rattle.std.specs.List.{AllByRecursion}
 use Rattle.std.specs.Global.{Vec}
-use Rattle.std.proofs.lemmas.Bool.{le-ltb, lt-ltb, false_from_ne_true, cases_Bool, cases_lt}
-use Rattle.std.proofs.lemmas.Slice.Eq.{bytes_eq-Decides}
+use Rattle.std.proofs.lemmas.Bool.{le-ltb, lt-ltb, cases_Bool, cases_lt}
 use Rattle.hf_base.specs.declared.four.FourCc.{FourCc}
 use Rattle.hf_base.specs.declared.kinds.TheConstants.{META}
 use Rattle.hf_base.specs.declared.fault.ReadRefusal.{ReadRefusal}
@@ -16,18 +15,11 @@ use Rattle.hf_box.specs.declared.view.BoxRow.{BoxRow}
 use Rattle.hf_base.specs.declared.limits.TheConstants.{BOXES}
 use Rattle.hf_box.specs.Boxes.{BoxAt, IsBoxes}
 use Rattle.hf_box.specs.Walk.{row_of, IsNotMeta, AreChildren, IsChildrenFault, HasMeta, IsWalk, IsWalkFault, is_kind, children_at, rows_of, walk_at}
+use Rattle.hf_box.proofs.SameKinds.{same_kind, other_kind, is_same_kind}
 use Rattle.hf_box.proofs.Lists.{boxes_read}
 use Rattle.hf_base.specs.Number.{IsBytes}
 use Rattle.hf_base.specs.ReadingLaws.{IsBytes-drop, ok_is}
 use Rattle.hf_box.proofs.BoxLaws.{fault_reads, boxes_or_fault, body_is_bytes}
-
-same_kind : (a b : FourCc) → a ≡ b → is_kind a b ≡ true
-same_kind a b e = (bytes_eq-Decides a.0 b.0).1 (ap (λ (k : FourCc). k.0) e)
-
-other_kind : (a b : FourCc) → (a ≡ b → ⊥) → is_kind a b ≡ false
-other_kind a b ne =
-    let mk : List ℕ → FourCc = λ l. record { 0 = l } in
-    false_from_ne_true (is_kind a b) (λ t. ne (ap mk ((bytes_eq-Decides a.0 b.0).0 t)))
 
 children_read : (m : BoxAt) (children : List BoxAt) → AreChildren m children → children_at m ≡ Ok children
 unfolding children_at
@@ -93,7 +85,7 @@ exactly file (Err (errors.Unfit e)) h = walk_fails file e h
 
 kind_or_not : (a b : FourCc) → (a ≡ b) ⊎ (a ≡ b → ⊥)
 kind_or_not a b = elim (cases_Bool (is_kind a b)) [
-  | inl same ↦ inl (let mk : List ℕ → FourCc = λ l. record { 0 = l } in ap mk ((bytes_eq-Decides a.0 b.0).0 same))
+  | inl same ↦ inl (is_same_kind a b same)
   | inr differ ↦ inr (λ e. let t = same_kind a b e in absurd cc)
 ]
 

@@ -4,3 +4,4 @@ pub mod Head
 pub mod Literals
 pub mod Walk
 pub mod Worked
+pub mod Written

@@ -1,8 +1,10 @@
 -- How long a file is, whatever its offsets are.
 use Rattle.std.proofs.Common.{◌≡◌, ℕ, ◌+◌, List, length, length-append, refl, sym, ap, ◌∙◌}
 use Rattle.hf_box.specs.Head.{box_len}
-use Rattle.hf_store.specs.Store.{four, ItemStore}
-use Rattle.hf_store.specs.Layout.{Homes, ftyp_body, mdat_body, meta_body, laid}
+use Rattle.hf_store.specs.Store.{ItemStore}
+use Rattle.hf_box.specs.Literals.{four}
+use Rattle.hf_head.specs.Ftyp.{ftyp_body}
+use Rattle.hf_store.specs.Layout.{Homes, mdat_body, meta_body, laid}
 use Rattle.hf_store.proofs.BoxLengths.{length-box}
 use Rattle.hf_store.proofs.Lengths.{meta_body_len, length-meta_body}
 use Rattle.hf_plan.specs.Lay.{LayBy}

@@ -3,7 +3,8 @@ use Rattle.std.proofs.Common.{◌≡◌, ℕ, ◌+◌, ◌*◌, ◌^◌, ◌<◌
 use Rattle.std.proofs.lemmas.Bool.{cases_lt}
 use Rattle.hf_box.specs.Head.{box_len}
 use Rattle.hf_store.specs.Store.{Item}
-use Rattle.hf_store.specs.Layout.{own, is_wide, id_width, has_bytes, with_bytes, bytes_in, meta_front, laid}
+use Rattle.hf_box.specs.Written.{id_width}
+use Rattle.hf_store.specs.Layout.{own, is_wide, has_bytes, with_bytes, bytes_in, meta_front, laid}
 use Rattle.hf_store.proofs.BoxLengths.{box_len-lt}
 use Rattle.hf_store.proofs.Lengths.{meta_body_len}
 use Rattle.hf_plan.specs.Lay.{Lay}

@@ -7,8 +7,10 @@ use Rattle.std.proofs.lemmas.List.{drop_at, take_at, append-nil}
 use Rattle.std.proofs.lemmas.List.Elements.{filter-append}
 use Rattle.hf_box.specs.Head.{box_head, box}
 use Rattle.hf_store.specs.Lists.{IsIn, RisesFrom}
-use Rattle.hf_store.specs.Store.{four, Item, ItemStore, ids_of}
-use Rattle.hf_store.specs.Layout.{Homes, own, has_bytes, in_idat, is_data_item, bytes_in, mdat_body, idat_body, mdat_offset, idat_offset, ftyp_body, meta_body, laid}
+use Rattle.hf_store.specs.Store.{Item, ItemStore, ids_of}
+use Rattle.hf_box.specs.Literals.{four}
+use Rattle.hf_head.specs.Ftyp.{ftyp_body}
+use Rattle.hf_store.specs.Layout.{Homes, own, has_bytes, in_idat, is_data_item, bytes_in, mdat_body, idat_body, mdat_offset, idat_offset, meta_body, laid}
 use Rattle.hf_plan.specs.Places.{StandsAt, BytesStand}
 
 -- ---- an item among others, whose ids rise

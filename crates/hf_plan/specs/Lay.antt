@@ -2,8 +2,9 @@
 use Rattle.std.specs.Prelude.{ℕ, ◌≡◌, ◌^◌, ◌<◌, Bool, List, length, if◌then◌else◌}
 use Rattle.std.specs.List.{AllByRecursion}
 use Rattle.hf_store.specs.Store.{Prop, Held, RefList, Item, Group, ItemStore}
+use Rattle.hf_box.specs.Written.{id_width}
 use Rattle.hf_store.specs.Table.{table_of, number_of}
-use Rattle.hf_store.specs.Layout.{Homes, own, is_wide, id_width, is_long_table, with_bytes, offset_of, laid}
+use Rattle.hf_store.specs.Layout.{Homes, own, is_wide, is_long_table, with_bytes, offset_of, laid}
 
 -- ---- each number that is written is below 256 ^ its width
 

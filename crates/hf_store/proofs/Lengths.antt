@@ -3,8 +3,10 @@ use Rattle.std.proofs.Common.{◌≡◌, ℕ, ◌+◌, ◌*◌, Bool, List, [], 
 use Rattle.std.specs.List.{flat_map}
 use Rattle.hf_base.specs.NumberLaws.{length-num}
 use Rattle.hf_box.specs.Head.{box_len}
-use Rattle.hf_store.specs.Store.{four, Item, ItemStore}
-use Rattle.hf_store.specs.Layout.{Homes, own, is_wide, id_width, with_bytes, iloc_entry, item_entry, iloc_body, meta_front, meta_body}
+use Rattle.hf_store.specs.Store.{Item, ItemStore}
+use Rattle.hf_box.specs.Literals.{four}
+use Rattle.hf_box.specs.Written.{id_width}
+use Rattle.hf_store.specs.Layout.{Homes, own, is_wide, with_bytes, iloc_entry, item_entry, iloc_body, meta_front, meta_body}
 use Rattle.hf_store.specs.Valid.{meta_len}
 use Rattle.hf_store.proofs.BoxLengths.{length-box}
 

@@ -2,11 +2,14 @@
 use Rattle.std.proofs.Common.{◌<◌, ◌^◌, ℕ, List, [], ◌∷◌, ◌++◌, map, refl, arith}
 use Rattle.std.specs.List.{AllByRecursion, range_with_len}
 use Rattle.hf_store.specs.Store.{Item, ids_of}
+use Rattle.hf_head.specs.Ftyp.{ftyp_body}
+use Rattle.hf_head.specs.Hdlr.{hdlr_body}
+use Rattle.hf_head.specs.Pitm.{pitm_body}
 use Rattle.std.specs.Prelude.{◌==◌, if◌then◌else◌}
 use Rattle.hf_base.specs.Number.{num}
 use Rattle.hf_box.specs.Head.{box_len, box_head, box}
 use Rattle.hf_store.specs.Table.{table_of}
-use Rattle.hf_store.specs.Layout.{is_wide, box_if_any, ftyp_body, hdlr_body, pitm_body, infe_body, iinf_body, reference_body, reference_boxes, ipco_body, ipma_body, iprp_body, group_body, bytes_in, iloc_entry, iloc_body, meta_front, meta_body, laid}
+use Rattle.hf_store.specs.Layout.{is_wide, box_if_any, infe_body, iinf_body, reference_body, reference_boxes, ipco_body, ipma_body, iprp_body, group_body, bytes_in, iloc_entry, iloc_body, meta_front, meta_body, laid}
 use Rattle.hf_store.specs.Derived.{input_pairs}
 use Rattle.hf_store.specs.Valid.{body_sum, meta_len, IsGoodItem, Valid}
 use Rattle.hf_store.specs.WorkedStores.{one_picture, one_empty_item, greatest_narrow_id, least_wide_id, two_widths, turned_picture, sized_picture, properties_127, properties_128, properties_300, identity_item, overlays, two_alternatives, picture_with_exif, picture_with_xmp, picture_with_thumbnail, every_feature, every_feature_wide, photograph, photograph_redacted, photograph_bare, tile, tiles, thumbnail, exif, xmp}

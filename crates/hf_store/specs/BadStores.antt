@@ -1,8 +1,8 @@
 -- Stores that are not valid, each for one reason.
 use Rattle.std.specs.Prelude.{◌^◌, [], ◌∷◌, map, replicate, codes}
 use Rattle.std.specs.List.{range_with_len}
-use Rattle.hf_store.specs.Hex.{hex}
-use Rattle.hf_store.specs.Store.{four, ItemStore}
+use Rattle.hf_box.specs.Literals.{four, hex_of}
+use Rattle.hf_store.specs.Store.{ItemStore}
 use Rattle.hf_store.specs.WorkedStores.{heic, plain, optional, references}
 
 -- the brand `mif1` at no multiple of four bytes, and no other
@@ -11,7 +11,7 @@ without_mif1 = record {
   brands = record { major = four "heic"; minor = 0; compatible = codes "xmif1hei" };
   primary = 1;
   items =
-      plain 1 "hvc1" (hex "aabbcc")
+      plain 1 "hvc1" (hex_of "aabbcc")
       ∷ [];
   groups = [];
 }
@@ -22,7 +22,7 @@ mif1_across_brands = record {
   brands = record { major = four "heic"; minor = 0; compatible = codes "xxmif1yy" };
   primary = 1;
   items =
-      plain 1 "hvc1" (hex "aabbcc")
+      plain 1 "hvc1" (hex_of "aabbcc")
       ∷ [];
   groups = [];
 }
@@ -33,7 +33,7 @@ brands_of_five_bytes = record {
   brands = record { major = four "mif1"; minor = 0; compatible = codes "heicx" };
   primary = 1;
   items =
-      plain 1 "hvc1" (hex "aabbcc")
+      plain 1 "hvc1" (hex_of "aabbcc")
       ∷ [];
   groups = [];
 }
@@ -44,7 +44,7 @@ zero_in_name = record {
   brands = heic;
   primary = 1;
   items =
-      record (plain 1 "hvc1" []) { name = hex "610062" }
+      record (plain 1 "hvc1" []) { name = hex_of "610062" }
       ∷ [];
   groups = [];
 }
@@ -133,7 +133,7 @@ grid_of_two_with_one = record {
   primary = 1;
   items =
       plain 1 "hvc1" []
-      ∷ record (plain 2 "grid" (hex "00000001 00080004")) { refs = references "dimg" (1 ∷ []) ∷ [] }
+      ∷ record (plain 2 "grid" (hex_of "00000001 00080004")) { refs = references "dimg" (1 ∷ []) ∷ [] }
       ∷ [];
   groups = [];
 }
@@ -145,7 +145,7 @@ grid_cut_short = record {
   primary = 1;
   items =
       plain 1 "hvc1" []
-      ∷ record (plain 2 "grid" (hex "00000000 000800")) { refs = references "dimg" (1 ∷ []) ∷ [] }
+      ∷ record (plain 2 "grid" (hex_of "00000000 000800")) { refs = references "dimg" (1 ∷ []) ∷ [] }
       ∷ [];
   groups = [];
 }
@@ -157,7 +157,7 @@ grid_of_long_sides_cut_short = record {
   primary = 1;
   items =
       plain 1 "hvc1" []
-      ∷ record (plain 2 "grid" (hex "00010000 00080004")) { refs = references "dimg" (1 ∷ []) ∷ [] }
+      ∷ record (plain 2 "grid" (hex_of "00010000 00080004")) { refs = references "dimg" (1 ∷ []) ∷ [] }
       ∷ [];
   groups = [];
 }
@@ -192,7 +192,7 @@ groups_of_one_id = record {
   brands = heic;
   primary = 1;
   items =
-      plain 1 "hvc1" (hex "aabbcc")
+      plain 1 "hvc1" (hex_of "aabbcc")
       ∷ [];
   groups =
       record { kind = four "altr"; version = 0; flags = 0; id = 5; entities = 1 ∷ []; tail = [] }
@@ -206,7 +206,7 @@ group_of_none = record {
   brands = heic;
   primary = 1;
   items =
-      plain 1 "hvc1" (hex "aabbcc")
+      plain 1 "hvc1" (hex_of "aabbcc")
       ∷ [];
   groups =
       record { kind = four "altr"; version = 0; flags = 0; id = 5; entities = []; tail = [] }

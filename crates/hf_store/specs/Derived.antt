@@ -4,7 +4,8 @@ use Rattle.std.specs.List.{flat_map}
 use Rattle.hf_base.specs.declared.four.FourCc.{FourCc}
 use Rattle.hf_box.specs.Walk.{is_kind}
 use Rattle.hf_store.specs.Lists.{IsIn}
-use Rattle.hf_store.specs.Store.{four, RefList, Item}
+use Rattle.hf_store.specs.Store.{RefList, Item}
+use Rattle.hf_box.specs.Literals.{four}
 
 -- the ids of the items that an item is made of: its references of type `dimg`
 abbrev pub inputs : List RefList → List ℕ

@@ -6,12 +6,14 @@ use Rattle.hf_base.specs.Number.{num}
 use Rattle.hf_base.specs.Reading.{full as full_box}
 use Rattle.hf_base.specs.declared.four.FourCc.{FourCc}
 use Rattle.hf_box.specs.Head.{box}
+use Rattle.hf_box.specs.Literals.{four}
 use Rattle.hf_box.specs.Walk.{is_kind}
-use Rattle.hf_store.specs.Store.{four, Brands, Prop, Held, RefList, Item, Group, ItemStore}
+use Rattle.hf_box.specs.Written.{bit, id_width, id_version, zero_ended}
+use Rattle.hf_head.specs.Ftyp.{ftyp_body}
+use Rattle.hf_head.specs.Hdlr.{hdlr_body}
+use Rattle.hf_head.specs.Pitm.{pitm_body}
+use Rattle.hf_store.specs.Store.{Prop, Held, RefList, Item, Group, ItemStore}
 use Rattle.hf_store.specs.Table.{table_of, number_of}
-
-abbrev pub bit : Bool → ℕ
-bit b = if b then 1 else 0
 
 -- ---- the width of item ids
 
@@ -19,15 +21,7 @@ bit b = if b then 1 else 0
 unfoldable pub is_wide : List Item → Bool
 is_wide is = list_any (λ (i : Item). nat_le (256 ^ 2) i.id) is
 
--- bytes of an item id
-abbrev pub id_width : Bool → ℕ
-id_width wide = if wide then 4 else 2
-
--- the versions that have ids of this width: of `pitm`, `iinf`, `iref` and `ipma`
-abbrev pub id_version : Bool → ℕ
-id_version wide = if wide then 1 else 0
-
--- of `infe`
+-- the versions that have ids of this width: of `infe`
 abbrev pub infe_version : Bool → ℕ
 infe_version wide = if wide then 3 else 2
 
@@ -36,10 +30,6 @@ abbrev pub iloc_version : Bool → ℕ
 iloc_version wide = if wide then 2 else 1
 
 -- ---- strings, and boxes that may be absent
-
--- a string, and the zero byte that ends it
-abbrev pub zero_ended : List ℕ → List ℕ
-zero_ended bytes = bytes ++ num 0 1
 
 -- a string that is left out where it is empty
 abbrev pub zero_ended_if_any : List ℕ → List ℕ
@@ -50,32 +40,6 @@ zero_ended_if_any (b ∷ bs) = zero_ended (b ∷ bs)
 unfoldable pub box_if_any : FourCc → List ℕ → List ℕ → List ℕ
 box_if_any kind fields [] = []
 box_if_any kind fields (b ∷ bs) = box kind (fields ++ b ∷ bs)
-
--- ---- ftyp, hdlr, pitm
-
--- `ftyp`, FileTypeBox of ISO/IEC 14496-12
-unfoldable pub ftyp_body : Brands → List ℕ
-ftyp_body b =
-    b.major.0  -- major_brand
-    ++ num b.minor 4  -- minor_version
-    ++ b.compatible  -- compatible_brands
-
--- `hdlr`, HandlerBox of ISO/IEC 14496-12
-unfoldable pub hdlr_body : List ℕ
-hdlr_body =
-    full_box 0 0
-    ++ num 0 4  -- pre_defined
-    ++ (four "pict").0  -- handler_type
-    ++ num 0 4  -- reserved
-    ++ num 0 4  -- reserved
-    ++ num 0 4  -- reserved
-    ++ zero_ended []  -- name
-
--- `pitm`, PrimaryItemBox of ISO/IEC 14496-12
-unfoldable pub pitm_body : Bool → ℕ → List ℕ
-pitm_body wide id =
-    full_box (id_version wide) 0
-    ++ num id (id_width wide)  -- item_ID
 
 -- ---- iinf
 

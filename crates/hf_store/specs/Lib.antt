@@ -1,7 +1,6 @@
 pub mod BadStores
 pub mod Changes
 pub mod Derived
-pub mod Hex
 pub mod Layout
 pub mod Lists
 pub mod Picks

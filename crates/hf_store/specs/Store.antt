@@ -1,18 +1,8 @@
 -- What a file says of its items, without where anything lies in it: no offset, extent, construction method or
 -- reference of type `iloc`. The terms are those of ISO/IEC 14496-12 and ISO/IEC 23008-12.
-use Rattle.std.specs.Prelude.{ℕ, Bool, List, map, codes}
-use Prim.Native.String.{String}
+use Rattle.std.specs.Prelude.{ℕ, Bool, List, map}
 use Rattle.hf_base.specs.declared.four.FourCc.{FourCc}
-
--- the type, brand or handler that this text spells
-abbrev pub four : String → FourCc
-four s = record { 0 = codes s }
-
--- `ftyp`: the compatible brands take four bytes each
-pub record Brands : Type 0 where
-  pub major : FourCc
-  pub minor : ℕ
-  pub compatible : List ℕ
+use Rattle.hf_head.specs.Ftyp.{Brands}
 
 -- a box of `ipco`
 pub record Prop : Type 0 where

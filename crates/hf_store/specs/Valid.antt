@@ -8,7 +8,9 @@ use Rattle.hf_base.specs.declared.four.FourCc.{FourCc}
 use Rattle.hf_base.specs.declared.limits.TheConstants as limits
 use Rattle.hf_box.specs.Head.{box}
 use Rattle.hf_store.specs.Lists.{IsIn, RisesFrom, Rises}
-use Rattle.hf_store.specs.Store.{four, Brands, Held, RefList, Item, Group, ItemStore, ids_of}
+use Rattle.hf_store.specs.Store.{Held, RefList, Item, Group, ItemStore, ids_of}
+use Rattle.hf_box.specs.Literals.{four}
+use Rattle.hf_head.specs.Ftyp.{Brands}
 use Rattle.hf_store.specs.Table.{table_of}
 use Rattle.hf_store.specs.Derived.{inputs, fits, input_pairs, IsEndless}
 use Rattle.hf_store.specs.Layout.{own, meta_body}

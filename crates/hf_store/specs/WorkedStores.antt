@@ -2,8 +2,9 @@
 use Rattle.std.specs.Prelude.{ℕ, ◌+◌, ◌/◌, ◌%◌, ◌==◌, true, false, List, [], ◌∷◌, ◌++◌, map, replicate, codes}
 use Prim.Native.String.{String}
 use Rattle.std.specs.List.{range_with_len}
-use Rattle.hf_store.specs.Hex.{hex}
-use Rattle.hf_store.specs.Store.{four, Brands, Held, RefList, Item, ItemStore}
+use Rattle.hf_box.specs.Literals.{four, hex_of}
+use Rattle.hf_head.specs.Ftyp.{Brands}
+use Rattle.hf_store.specs.Store.{Held, RefList, Item, ItemStore}
 
 -- `heic`, compatible with `mif1` and `heic`
 abbrev pub heic : Brands
@@ -24,7 +25,7 @@ references kind to = record { kind = four kind; to = to }
 
 -- the size of a picture, four by four
 abbrev pub four_by_four : Held
-four_by_four = optional "ispe" (hex "00000000 00000004 00000004")
+four_by_four = optional "ispe" (hex_of "00000000 00000004 00000004")
 
 -- one picture of three bytes
 unfoldable pub one_picture : ItemStore
@@ -32,7 +33,7 @@ one_picture = record {
   brands = heic;
   primary = 1;
   items =
-      plain 1 "hvc1" (hex "aabbcc")
+      plain 1 "hvc1" (hex_of "aabbcc")
       ∷ [];
   groups = [];
 }
@@ -54,7 +55,7 @@ greatest_narrow_id = record {
   brands = heic;
   primary = 65535;
   items =
-      plain 65535 "hvc1" (hex "aabbcc")
+      plain 65535 "hvc1" (hex_of "aabbcc")
       ∷ [];
   groups = [];
 }
@@ -65,7 +66,7 @@ least_wide_id = record {
   brands = heic;
   primary = 65536;
   items =
-      plain 65536 "hvc1" (hex "aabbcc")
+      plain 65536 "hvc1" (hex_of "aabbcc")
       ∷ [];
   groups = [];
 }
@@ -76,7 +77,7 @@ turned_picture = record {
   brands = heic;
   primary = 1;
   items =
-      record (plain 1 "hvc1" (hex "aabbcc")) { props = essential "irot" (hex "01") ∷ [] }
+      record (plain 1 "hvc1" (hex_of "aabbcc")) { props = essential "irot" (hex_of "01") ∷ [] }
       ∷ [];
   groups = [];
 }
@@ -87,7 +88,7 @@ sized_picture = record {
   brands = heic;
   primary = 1;
   items =
-      record (plain 1 "hvc1" (hex "aabbcc")) { props = four_by_four ∷ [] }
+      record (plain 1 "hvc1" (hex_of "aabbcc")) { props = four_by_four ∷ [] }
       ∷ [];
   groups = [];
 }
@@ -98,7 +99,7 @@ identity_item = record {
   brands = heic;
   primary = 1;
   items =
-      plain 1 "hvc1" (hex "aabbcc")
+      plain 1 "hvc1" (hex_of "aabbcc")
       ∷ record (plain 2 "iden" []) { refs = references "dimg" (1 ∷ []) ∷ [] }
       ∷ [];
   groups = [];
@@ -110,8 +111,8 @@ two_alternatives = record {
   brands = heic;
   primary = 1;
   items =
-      plain 1 "hvc1" (hex "aabbcc")
-      ∷ plain 2 "hvc1" (hex "dd")
+      plain 1 "hvc1" (hex_of "aabbcc")
+      ∷ plain 2 "hvc1" (hex_of "dd")
       ∷ [];
   groups =
       record { kind = four "altr"; version = 0; flags = 0; id = 10; entities = 1 ∷ 2 ∷ []; tail = [] }
@@ -124,8 +125,8 @@ two_widths = record {
   brands = heic;
   primary = 1;
   items =
-      plain 1 "hvc1" (hex "aabbcc")
-      ∷ plain 70000 "hvc1" (hex "dd")
+      plain 1 "hvc1" (hex_of "aabbcc")
+      ∷ plain 70000 "hvc1" (hex_of "dd")
       ∷ [];
   groups = [];
 }
@@ -136,8 +137,8 @@ picture_with_exif = record {
   brands = heic;
   primary = 1;
   items =
-      plain 1 "hvc1" (hex "aabbcc")
-      ∷ record (plain 2 "Exif" (hex "00000000 4949")) { refs = references "cdsc" (1 ∷ []) ∷ [] }
+      plain 1 "hvc1" (hex_of "aabbcc")
+      ∷ record (plain 2 "Exif" (hex_of "00000000 4949")) { refs = references "cdsc" (1 ∷ []) ∷ [] }
       ∷ [];
   groups = [];
 }
@@ -148,7 +149,7 @@ picture_with_xmp = record {
   brands = heic;
   primary = 1;
   items =
-      plain 1 "hvc1" (hex "aabbcc")
+      plain 1 "hvc1" (hex_of "aabbcc")
       ∷ record (plain 2 "mime" (codes "II")) { content = codes "application/rdf+xml"; refs = references "cdsc" (1 ∷ []) ∷ [] }
       ∷ [];
   groups = [];
@@ -160,8 +161,8 @@ picture_with_thumbnail = record {
   brands = heic;
   primary = 1;
   items =
-      plain 1 "hvc1" (hex "aabbcc")
-      ∷ record (plain 2 "hvc1" (hex "aabbcc")) { refs = references "thmb" (1 ∷ []) ∷ [] }
+      plain 1 "hvc1" (hex_of "aabbcc")
+      ∷ record (plain 2 "hvc1" (hex_of "aabbcc")) { refs = references "thmb" (1 ∷ []) ∷ [] }
       ∷ [];
   groups = [];
 }
@@ -172,7 +173,7 @@ overlays = record {
   brands = heic;
   primary = 1;
   items =
-      plain 1 "hvc1" (hex "aabbcc")
+      plain 1 "hvc1" (hex_of "aabbcc")
       ∷ plain 2 "iovl" (replicate 18 0x00)
       ∷ plain 3 "iovl" (replicate 256 0x00)
       ∷ plain 4 "iovl" (replicate 257 0x00)
@@ -186,20 +187,20 @@ every_feature = record {
   brands = record { major = four "mif1"; minor = 7; compatible = codes "heicmsf1" };
   primary = 3;
   items =
-      record (plain 1 "hvc1" (hex "aabbcc")) { hidden = true; name = codes "tile"; props = essential "hvcC" (hex "0102") ∷ four_by_four ∷ [] }
-      ∷ record (plain 2 "hvc1" (hex "dd")) { props = four_by_four ∷ essential "hvcC" (hex "0102") ∷ essential "irot" (hex "03") ∷ [] }
-      ∷ record (plain 3 "grid" (hex "00000001 00080004")) { name = codes "IMG"; props = four_by_four ∷ []; refs = references "auxl" (1 ∷ []) ∷ references "dimg" (1 ∷ 2 ∷ []) ∷ [] }
+      record (plain 1 "hvc1" (hex_of "aabbcc")) { hidden = true; name = codes "tile"; props = essential "hvcC" (hex_of "0102") ∷ four_by_four ∷ [] }
+      ∷ record (plain 2 "hvc1" (hex_of "dd")) { props = four_by_four ∷ essential "hvcC" (hex_of "0102") ∷ essential "irot" (hex_of "03") ∷ [] }
+      ∷ record (plain 3 "grid" (hex_of "00000001 00080004")) { name = codes "IMG"; props = four_by_four ∷ []; refs = references "auxl" (1 ∷ []) ∷ references "dimg" (1 ∷ 2 ∷ []) ∷ [] }
       ∷ record (plain 5 "mime" (codes "<x/>")) { content = codes "application/rdf+xml"; encoding = codes "gzip"; refs = references "cdsc" (3 ∷ []) ∷ [] }
       ∷ record (plain 6 "mime" (codes "hi")) { content = codes "text/plain" }
       ∷ plain 7 "mime" []
       ∷ record (plain 8 "uri " (codes "u")) { uri = codes "urn:x"; refs = references "cdsc" (1 ∷ 3 ∷ []) ∷ [] }
-      ∷ record (plain 9 "iovl" (hex "00000000 00000000 00000008 0008ffff 0001")) { refs = references "dimg" (2 ∷ []) ∷ [] }
-      ∷ plain 10 "iovl" (hex "00000000 00000000 00000008 0008" ++ replicate 300 0x00)
-      ∷ plain 11 "hvc1" (hex "aabbcc")
+      ∷ record (plain 9 "iovl" (hex_of "00000000 00000000 00000008 0008ffff 0001")) { refs = references "dimg" (2 ∷ []) ∷ [] }
+      ∷ plain 10 "iovl" (hex_of "00000000 00000000 00000008 0008" ++ replicate 300 0x00)
+      ∷ plain 11 "hvc1" (hex_of "aabbcc")
       ∷ [];
   groups =
       record { kind = four "altr"; version = 0; flags = 0; id = 0; entities = 3 ∷ 2 ∷ []; tail = [] }
-      ∷ record { kind = four "ster"; version = 1; flags = 0x0a0b0c; id = 77; entities = 1 ∷ []; tail = hex "0908" }
+      ∷ record { kind = four "ster"; version = 1; flags = 0x0a0b0c; id = 77; entities = 1 ∷ []; tail = hex_of "0908" }
       ∷ [];
 }
 
@@ -209,21 +210,21 @@ every_feature_wide = record {
   brands = record { major = four "mif1"; minor = 7; compatible = codes "heicmsf1" };
   primary = 3;
   items =
-      record (plain 1 "hvc1" (hex "aabbcc")) { hidden = true; name = codes "tile"; props = essential "hvcC" (hex "0102") ∷ four_by_four ∷ [] }
-      ∷ record (plain 2 "hvc1" (hex "dd")) { props = four_by_four ∷ essential "hvcC" (hex "0102") ∷ essential "irot" (hex "03") ∷ [] }
-      ∷ record (plain 3 "grid" (hex "00000001 00080004")) { name = codes "IMG"; props = four_by_four ∷ []; refs = references "auxl" (1 ∷ []) ∷ references "dimg" (1 ∷ 2 ∷ []) ∷ [] }
+      record (plain 1 "hvc1" (hex_of "aabbcc")) { hidden = true; name = codes "tile"; props = essential "hvcC" (hex_of "0102") ∷ four_by_four ∷ [] }
+      ∷ record (plain 2 "hvc1" (hex_of "dd")) { props = four_by_four ∷ essential "hvcC" (hex_of "0102") ∷ essential "irot" (hex_of "03") ∷ [] }
+      ∷ record (plain 3 "grid" (hex_of "00000001 00080004")) { name = codes "IMG"; props = four_by_four ∷ []; refs = references "auxl" (1 ∷ []) ∷ references "dimg" (1 ∷ 2 ∷ []) ∷ [] }
       ∷ record (plain 5 "mime" (codes "<x/>")) { content = codes "application/rdf+xml"; encoding = codes "gzip"; refs = references "cdsc" (3 ∷ []) ∷ [] }
       ∷ record (plain 6 "mime" (codes "hi")) { content = codes "text/plain" }
       ∷ plain 7 "mime" []
       ∷ record (plain 8 "uri " (codes "u")) { uri = codes "urn:x"; refs = references "cdsc" (1 ∷ 3 ∷ []) ∷ [] }
-      ∷ record (plain 9 "iovl" (hex "00000000 00000000 00000008 0008ffff 0001")) { refs = references "dimg" (2 ∷ []) ∷ [] }
-      ∷ plain 10 "iovl" (hex "00000000 00000000 00000008 0008" ++ replicate 300 0x00)
-      ∷ plain 11 "hvc1" (hex "aabbcc")
-      ∷ record (plain 4294967294 "uri " (hex "dd")) { props = four_by_four ∷ []; refs = references "cdsc" (11 ∷ 4294967294 ∷ []) ∷ [] }
+      ∷ record (plain 9 "iovl" (hex_of "00000000 00000000 00000008 0008ffff 0001")) { refs = references "dimg" (2 ∷ []) ∷ [] }
+      ∷ plain 10 "iovl" (hex_of "00000000 00000000 00000008 0008" ++ replicate 300 0x00)
+      ∷ plain 11 "hvc1" (hex_of "aabbcc")
+      ∷ record (plain 4294967294 "uri " (hex_of "dd")) { props = four_by_four ∷ []; refs = references "cdsc" (11 ∷ 4294967294 ∷ []) ∷ [] }
       ∷ [];
   groups =
       record { kind = four "altr"; version = 0; flags = 0; id = 0; entities = 3 ∷ 2 ∷ []; tail = [] }
-      ∷ record { kind = four "ster"; version = 1; flags = 0x0a0b0c; id = 77; entities = 1 ∷ []; tail = hex "0908" }
+      ∷ record { kind = four "ster"; version = 1; flags = 0x0a0b0c; id = 77; entities = 1 ∷ []; tail = hex_of "0908" }
       ∷ [];
 }
 
@@ -233,7 +234,7 @@ properties_127 = record {
   brands = heic;
   primary = 1;
   items =
-      record (plain 1 "hvc1" (hex "aabbcc")) { props = map (λ n. optional "prop" (n ∷ [])) (range_with_len 0 127) }
+      record (plain 1 "hvc1" (hex_of "aabbcc")) { props = map (λ n. optional "prop" (n ∷ [])) (range_with_len 0 127) }
       ∷ [];
   groups = [];
 }
@@ -244,7 +245,7 @@ properties_128 = record {
   brands = heic;
   primary = 1;
   items =
-      record (plain 1 "hvc1" (hex "aabbcc")) { props = map (λ n. optional "prop" (n ∷ [])) (range_with_len 0 128) }
+      record (plain 1 "hvc1" (hex_of "aabbcc")) { props = map (λ n. optional "prop" (n ∷ [])) (range_with_len 0 128) }
       ∷ [];
   groups = [];
 }
@@ -259,7 +260,7 @@ properties_300 = record {
   brands = heic;
   primary = 1;
   items =
-      record (plain 1 "hvc1" (hex "aabbcc")) { props = map third_essential (range_with_len 0 250) }
+      record (plain 1 "hvc1" (hex_of "aabbcc")) { props = map third_essential (range_with_len 0 250) }
       ∷ record (plain 2 "hvc1" []) { props = map third_essential (range_with_len 200 100 ++ range_with_len 0 2) }
       ∷ [];
   groups = [];
@@ -267,17 +268,17 @@ properties_300 = record {
 
 -- a tile of the photograph: 512 by 512
 abbrev pub tile : ℕ → Item
-tile id = record (plain id "hvc1" (replicate (100 + id) id)) { hidden = true; props = essential "hvcC" (hex "01020304") ∷ optional "ispe" (hex "00000000 00000200 00000200") ∷ [] }
+tile id = record (plain id "hvc1" (replicate (100 + id) id)) { hidden = true; props = essential "hvcC" (hex_of "01020304") ∷ optional "ispe" (hex_of "00000000 00000200 00000200") ∷ [] }
 
 -- 48 tiles, in rows of eight
 abbrev pub tiles : Item
-tiles = record (plain 49 "grid" (hex "00000507 0fc00bd0")) { name = codes "IMG_0001"; props = optional "ispe" (hex "00000000 00000fc0 00000bd0") ∷ essential "irot" (hex "00") ∷ []; refs = references "dimg" (range_with_len 1 48) ∷ [] }
+tiles = record (plain 49 "grid" (hex_of "00000507 0fc00bd0")) { name = codes "IMG_0001"; props = optional "ispe" (hex_of "00000000 00000fc0 00000bd0") ∷ essential "irot" (hex_of "00") ∷ []; refs = references "dimg" (range_with_len 1 48) ∷ [] }
 
 abbrev pub thumbnail : Item
-thumbnail = record (plain 50 "hvc1" (replicate 200 0x32)) { props = essential "hvcC" (hex "05060708") ∷ optional "ispe" (hex "00000000 00000140 000000f0") ∷ []; refs = references "thmb" (49 ∷ []) ∷ [] }
+thumbnail = record (plain 50 "hvc1" (replicate 200 0x32)) { props = essential "hvcC" (hex_of "05060708") ∷ optional "ispe" (hex_of "00000000 00000140 000000f0") ∷ []; refs = references "thmb" (49 ∷ []) ∷ [] }
 
 abbrev pub exif : Item
-exif = record (plain 51 "Exif" (hex "00000000 45454545 45454545 45454545 45454545")) { refs = references "cdsc" (49 ∷ []) ∷ [] }
+exif = record (plain 51 "Exif" (hex_of "00000000 45454545 45454545 45454545 45454545")) { refs = references "cdsc" (49 ∷ []) ∷ [] }
 
 abbrev pub xmp : Item
 xmp = record (plain 52 "mime" (replicate 30 0x58)) { content = codes "application/rdf+xml"; refs = references "cdsc" (49 ∷ []) ∷ [] }

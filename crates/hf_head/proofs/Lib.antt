@@ -1,0 +1,3 @@
+pub mod FtypLemmas
+pub mod HdlrLemmas
+pub mod PitmLemmas

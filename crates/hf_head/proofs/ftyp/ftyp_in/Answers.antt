@@ -1,0 +1,9 @@
+use Rattle.std.proofs.Common.{arith}
+use Rattle.hf_head.proofs.FtypLemmas.{is_found, is_only}
+use Rattle.hf_head.proofs.ftyp.ftyp_in.Goals as goal
+
+pub returns-clause-found : goal.returns-clause-found
+returns-clause-found c = is_found c.args.at c.args.body.now c.brands_in.result (λ i. omega (arith, c.type_inv.body i)) c.brands_in.ensures
+
+pub returns-clause-only : goal.returns-clause-only
+returns-clause-only c = λ b h. is_only c.args.at c.args.body.now c.brands_in.result b c.brands_in.ensures h

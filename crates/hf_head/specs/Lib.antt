@@ -1,0 +1,3 @@
+pub mod Ftyp
+pub mod Hdlr
+pub mod Pitm

@@ -1,0 +1,61 @@
+//! `ftyp`: FileTypeBox of ISO/IEC 14496-12.
+
+ghost use Rattle.std.specs.Prelude.{◌≡◌, List, IfOk, IsOkAnd};
+ghost use Rattle.hf_base.specs.Reading.{Reads};
+ghost use Rattle.hf_head.specs.Ftyp.{Brands as Stated, IsFtyp, brands_of, ftyp_at};
+
+use hf_base::kinds::FTYP;
+use hf_base::{FourCc, ReadRefusal, front_kind, front32};
+use hf_box::BoxView;
+
+/// The brands of a file (FileTypeBox of ISO/IEC 14496-12).
+#[derive(Clone, Copy, Debug)]
+pub struct Brands<'a> {
+    /// The major brand.
+    pub major: FourCc,
+    /// The minor version.
+    pub minor: u32,
+    /// The compatible brands, four bytes each.
+    pub compatible: &'a [u8],
+}
+
+/// The brands in a body, with the place of its box.
+#[tactic(auto, unfolding(crate::specs::Ftyp::ftyp_at))]
+fn brands_in<'a>(body: &'a [u8], at: u64) -> Result<Brands<'a>, ReadRefusal>
+    ensures { Reads brands_of result (ftyp_at at body.now) }
+{
+    let short = ReadRefusal::BadRecord { kind: FTYP, at };
+    let (major, rest) = front_kind(body, short)?;
+    let (minor, compatible) = front32(rest, short)?;
+    if compatible.len() % 4 != 0 {
+        return Err(short);
+    }
+    Ok(Brands {
+        major,
+        minor,
+        compatible,
+    })
+}
+
+/// The same, of bytes.
+fn ftyp_in<'a>(body: &'a [u8], at: u64) -> Result<Brands<'a>, ReadRefusal>
+    ensures found { IfOk result (λ b. IsFtyp body.now (brands_of b)) }
+    ensures only { (b : Stated) → IsFtyp body.now b → IsOkAnd result (λ r. brands_of r ≡ b) }
+    ensures exact { Reads brands_of result (ftyp_at at body.now) }
+{
+    brands_in(body, at)
+}
+
+/// Reads the brands of a `ftyp`. BadRecord comes where the body is below eight bytes or its length
+/// is no multiple of 4.
+pub fn read_ftyp<'a>(view: &BoxView<'a>) -> Result<Brands<'a>, ReadRefusal>
+    requires { view.now.kind ≡ FTYP }
+    // What is read stands there.
+    ensures found { IfOk result (λ b. IsFtyp view.now.body.now (brands_of b)) }
+    // What stands there is read.
+    ensures only { (b : Stated) → IsFtyp view.now.body.now b → IsOkAnd result (λ r. brands_of r ≡ b) }
+    // Which refusal it is.
+    ensures exact { Reads brands_of result (ftyp_at view.now.at view.now.body.now) }
+{
+    ftyp_in(view.body, view.at)
+}

@@ -1,0 +1,60 @@
+//! `hdlr`: HandlerBox of ISO/IEC 14496-12.
+
+ghost use Rattle.std.specs.Prelude.{◌≡◌, List, IsOk, OnOk};
+ghost use Rattle.hf_base.specs.Reading.{Reads};
+ghost use Rattle.hf_head.specs.Hdlr.{IsHdlr, handler_at, hdlr_at};
+
+use hf_base::kinds::{HDLR, PICT};
+use hf_base::{FourCc, ReadRefusal, front_kind, front_version, front32};
+use hf_box::BoxView;
+
+/// The handler type in a body, with the place of its box.
+#[tactic(auto, unfolding(crate::specs::Hdlr::handler_at))]
+fn handler_in(body: &[u8], at: u64) -> Result<FourCc, ReadRefusal>
+    ensures { Reads (λ kind. kind) result (handler_at at body.now) }
+{
+    let short = ReadRefusal::BadRecord { kind: HDLR, at };
+    let (_version, _flags, rest) = front_version(body, short)?;
+    let (_pre_defined, rest) = front32(rest, short)?;
+    let (handler, rest) = front_kind(rest, short)?;
+    let (_reserved, rest) = front32(rest, short)?;
+    let (_reserved, rest) = front32(rest, short)?;
+    front32(rest, short)?;
+    Ok(handler)
+}
+
+/// Whether a body has the handler of pictures, with the place of its box.
+#[tactic(auto, unfolding(crate::specs::Hdlr::hdlr_at))]
+fn picture_in(body: &[u8], at: u64) -> Result<(), ReadRefusal>
+    ensures { Reads (λ x. x) result (hdlr_at at body.now) }
+{
+    let handler = handler_in(body, at)?;
+    if handler.is(PICT) {
+        return Ok(());
+    }
+    Err(ReadRefusal::NotPicture)
+}
+
+/// The same, of bytes.
+fn hdlr_in(body: &[u8], at: u64) -> Result<(), ReadRefusal>
+    ensures found { OnOk result (IsHdlr body.now) }
+    ensures only { IsHdlr body.now → IsOk result }
+    ensures exact { Reads (λ x. x) result (hdlr_at at body.now) }
+{
+    picture_in(body, at)
+}
+
+/// Reads a `hdlr`, whose handler is to be that of pictures (ISO/IEC 23008-12). BadRecord comes where
+/// the body is too short for the fields in front of the name, and NotPicture where the handler is
+/// another one.
+pub fn read_hdlr(view: &BoxView<'_>) -> Result<(), ReadRefusal>
+    requires { view.now.kind ≡ HDLR }
+    // It is read only where the handler stands there.
+    ensures found { OnOk result (IsHdlr view.now.body.now) }
+    // It is read where the handler stands there.
+    ensures only { IsHdlr view.now.body.now → IsOk result }
+    // Which refusal it is.
+    ensures exact { Reads (λ x. x) result (hdlr_at view.now.at view.now.body.now) }
+{
+    hdlr_in(view.body, view.at)
+}

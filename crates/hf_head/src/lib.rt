@@ -1,0 +1,11 @@
+//! The records at the head of a file: its brands, its handler and the id of its primary item.
+#![tactic(auto)]
+
+mod ftyp;
+mod hdlr;
+pub mod laws;
+mod pitm;
+
+pub use ftyp::{Brands, read_ftyp};
+pub use hdlr::read_hdlr;
+pub use pitm::read_pitm;
