@@ -3,8 +3,10 @@ pub mod Ends
 pub mod Finds
 pub mod LaidFiles
 pub mod Lengths
+pub mod Places
 pub mod PlainLengths
 pub mod RefusedStores
 pub mod Removals
+pub mod Spots
 pub mod Tables
 pub mod ValidStores

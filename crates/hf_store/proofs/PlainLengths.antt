@@ -8,10 +8,14 @@ use Rattle.hf_base.specs.NumberLaws.{length-num}
 use Rattle.hf_base.specs.Reading.{full as full_box}
 use Rattle.hf_base.specs.declared.four.FourCc.{FourCc}
 use Rattle.hf_box.specs.Head.{box_len, box}
+use Rattle.hf_box.specs.Literals.{four}
 use Rattle.hf_box.specs.Walk.{is_kind}
-use Rattle.hf_store.specs.Store.{four, Prop, Item, ItemStore}
+use Rattle.hf_box.specs.Written.{id_width, id_version}
+use Rattle.hf_head.specs.Hdlr.{hdlr_body}
+use Rattle.hf_head.specs.Pitm.{pitm_body}
+use Rattle.hf_store.specs.Store.{Prop, Item, ItemStore}
 use Rattle.hf_store.specs.Table.{props_of, table_of}
-use Rattle.hf_store.specs.Layout.{is_wide, id_width, id_version, infe_body, infe_box, hdlr_body, pitm_body, iinf_body, reference_boxes, ipco_body, ipma_body, iprp_body, has_props, in_idat, bytes_in, idat_body, box_if_any, meta_front, group_box}
+use Rattle.hf_store.specs.Layout.{is_wide, infe_body, infe_box, iinf_body, reference_boxes, ipco_body, ipma_body, iprp_body, has_props, in_idat, bytes_in, idat_body, box_if_any, meta_front, group_box}
 use Rattle.hf_store.specs.Valid.{IsFour, IsGoodItem, Valid}
 use Rattle.hf_store.specs.Plain.{IsPlainItem, ArePlain, IsPlain}
 use Rattle.hf_store.proofs.BoxLengths.{length-box, box_len-short}

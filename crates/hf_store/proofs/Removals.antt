@@ -3,6 +3,7 @@ use Rattle.std.proofs.Common.{◌≡◌, ◌≢◌, ℕ, zero, suc, ◌+◌, ◌
 use Rattle.std.specs.Prelude.{◌==◌, slice_get, option_map}
 use Rattle.std.specs.List.{AllByRecursion, list_any, flat_map, filter, remove, sum_by}
 use Rattle.std.proofs.lemmas.Bool.{cases_Bool, or_parts, eq-eqb}
+use Rattle.std.proofs.lemmas.List.{drop_all}
 use Rattle.std.proofs.lemmas.List.Concat.{length-flat_map}
 use Rattle.std.proofs.lemmas.Nat.{mul-le}
 use Rattle.hf_base.specs.declared.limits.TheConstants as limits
@@ -11,13 +12,15 @@ use Rattle.hf_store.specs.Lists.{IsIn, RisesFrom}
 use Rattle.hf_store.specs.Store.{RefList, Item, Group, ItemStore, ids_of}
 use Rattle.hf_store.specs.Table.{table_of}
 use Rattle.hf_store.specs.Derived.{inputs, input_pairs, IsEndless}
-use Rattle.hf_store.specs.Layout.{is_wide, id_width, with_bytes, has_bytes, meta_front}
+use Rattle.hf_box.specs.Written.{id_width}
+use Rattle.hf_store.specs.Layout.{is_wide, with_bytes, has_bytes, meta_front}
 use Rattle.hf_store.specs.Valid.{body_sum, meta_len, IsGoodRef, IsGoodItem, IsGoodGroup, Valid}
 use Rattle.hf_store.specs.Plain.{IsPlainItem, ArePlain, IsPlain}
-use Rattle.hf_store.specs.Changes.{cut_refs, cut_item, cut_group, group_stays, removed, needed_by, why_not_removed, Edit, Remove, step, why, StepsKeepValidity, StepsKeepPlain}
+use Rattle.hf_store.specs.Changes.{id_at, cut_refs, cut_item, cut_group, group_stays, removed, needed_by, why_not_removed, Edit, Remove, step, why, StepsKeepValidity, StepsKeepPlain}
 use Rattle.hf_store.specs.declared.reason.Reason.{Reason}
 use Rattle.hf_store.specs.declared.reason.Reason.TheVariants.{NoItem, IsPrimary, Needed}
 use Rattle.hf_store.proofs.BoxLengths.{box_len-mono}
+use Rattle.hf_store.proofs.Spots.{drop_here, map-remove, rises_at, id_here, at_or}
 use Rattle.hf_store.proofs.Lengths.{meta_body_len, meta_len-is}
 use Rattle.hf_store.proofs.PlainLengths.{no_table, front_len, length-meta_front}
 
@@ -142,6 +145,13 @@ body_sum-bytes is = sym (length-flat_map (λ (i : Item). i.bytes) is)
 pub body_sum-cons : (i : Item) (is : List Item) → body_sum (i ∷ is) ≡ length i.bytes + body_sum is
 body_sum-cons i is = omega (arith, body_sum-bytes (i ∷ is), body_sum-bytes is, length-append i.bytes (flat_map (λ (j : Item). j.bytes) is))
 
+pub body_sum-here : (is : List Item) (k : ℕ) (i : Item) → slice_get is k ≡ Some i → body_sum (drop k is) ≡ length i.bytes + body_sum (drop (k + 1) is)
+body_sum-here is k i e = ap body_sum (drop_here is k i e) ∙ body_sum-cons i (drop (k + 1) is)
+
+pub body_sum-end : (is : List Item) (k : ℕ) → length is ≤ k → body_sum (drop k is) ≡ 0
+unfolding body_sum
+body_sum-end is k h = ap body_sum (drop_all k is h)
+
 body_others : (id : ℕ) (is : List Item) → body_sum (others id is) ≤ body_sum is
 body_others id [] = omega arith
 body_others id (i ∷ is) =
@@ -227,5 +237,46 @@ pub steps_keep_validity : StepsKeepValidity
 steps_keep_validity s (Remove id) valid plain none =
     subst Valid (sym (removed-plain id s plain)) (valid_left id s valid plain (not_primary s id none))
 
+pub plain_removed : (id : ℕ) (s : ItemStore) → IsPlain s → IsPlain (removed id s)
+plain_removed id s plain = subst IsPlain (sym (removed-plain id s plain)) (plain_left id s plain)
+
 pub steps_keep_plain : StepsKeepPlain
-steps_keep_plain s (Remove id) plain = subst IsPlain (sym (removed-plain id s plain)) (plain_left id s plain)
+steps_keep_plain s (Remove id) plain = plain_removed id s plain
+
+-- ---- an item is taken out at a place
+
+others_of_greater : (id low : ℕ) (is : List Item) → id ≤ low → RisesFrom ◌<◌ low (ids_of is) → others id is ≡ is
+others_of_greater id low [] le rises = refl
+others_of_greater id low (i ∷ is) le rises =
+    elim (cases_Bool (is_other id i)) [
+      | inl stays ↦ rw stays (ap (λ (js : List Item). i ∷ js) (others_of_greater id i.id is (omega (arith, le, rises.0)) rises.1))
+      | inr goes ↦ absurd (let same = eqb-true i.id id (not-not (i.id == id) goes) in omega (arith, same, le, rises.0))
+    ]
+
+self_is_other : (n : ℕ) → not (n == n) ≡ true → ⊥
+self_is_other n e = let same = eq-eqb n n refl in let no : not (n == n) ≡ false = ap not same in cc
+
+id_later : (low : ℕ) (is : List Item) (k : ℕ) → RisesFrom ◌<◌ low (ids_of is) → k < length is → low < id_at k is
+id_later low [] k rises within = absurd (omega arith)
+id_later low (i ∷ is) zero rises within = rises.0
+id_later low (i ∷ is) (suc k) rises within = omega (arith, rises.0, id_later i.id is k rises.1 (omega arith))
+
+-- among rising ids, the others are those that are left when the item at the place is taken out
+others-removed : (low : ℕ) (is : List Item) (k : ℕ) → RisesFrom ◌<◌ low (ids_of is) → k < length is → others (id_at k is) is ≡ remove is k
+others-removed low [] k rises within = absurd (omega arith)
+others-removed low (i ∷ is) zero rises within =
+    elim (cases_Bool (is_other i.id i)) [
+      | inl stays ↦ absurd (self_is_other i.id (stays))
+      | inr goes ↦ rw goes (others_of_greater i.id i.id is (omega arith) rises.1)
+    ]
+others-removed low (i ∷ is) (suc k) rises within =
+    let later = id_later i.id is k rises.1 (omega arith) in
+    elim (cases_Bool (is_other (id_at k is) i)) [
+      | inl stays ↦ rw stays (ap (λ (js : List Item). i ∷ js) (others-removed i.id is k rises.1 (omega arith)))
+      | inr goes ↦ absurd (let same = eqb-true i.id (id_at k is) (not-not (i.id == id_at k is) goes) in omega (arith, same, later))
+    ]
+
+pub removed_at : (s : ItemStore) (k : ℕ) → RisesFrom ◌<◌ 0 (ids_of s.items) → IsPlain s → k < length s.items → removed (id_at k s.items) s ≡ record s { items = remove s.items k }
+removed_at s k rises plain within =
+    let made : List Item → ItemStore = λ is. record s { items = is } in
+    removed-plain (id_at k s.items) s plain ∙ ap made (others-removed 0 s.items k rises within)

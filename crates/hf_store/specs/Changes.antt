@@ -1,5 +1,5 @@
 -- What an edit makes of a store, and when it is refused. These rules are this project's own.
-use Rattle.std.specs.Prelude.{ℕ, ◌≡◌, ◌≢◌, ◌≤◌, ◌==◌, Bool, true, false, not, ◌&&◌, ◌||◌, IsTrue, List, [], ◌∷◌, length, map, filter, Option, Some, None, option_map, if◌then◌else◌}
+use Rattle.std.specs.Prelude.{ℕ, ◌≡◌, ◌≢◌, ◌≤◌, ◌==◌, Bool, true, false, not, ◌&&◌, ◌||◌, IsTrue, List, [], ◌∷◌, length, map, filter, Option, Some, None, option_map, if◌then◌else◌, get_or}
 use Rattle.std.specs.List.{list_any}
 use Rattle.hf_base.specs.declared.four.FourCc.{FourCc}
 use Rattle.hf_box.specs.Literals.{four}
@@ -10,6 +10,10 @@ use Rattle.hf_store.specs.Valid.{Valid}
 use Rattle.hf_store.specs.Plain.{IsPlain}
 use Rattle.hf_store.specs.declared.reason.Reason.{Reason}
 use Rattle.hf_store.specs.declared.reason.Reason.TheVariants.{NoItem, IsPrimary, Needed}
+
+-- the id of the item at a place
+abbrev pub id_at : ℕ → List Item → ℕ
+id_at i is = get_or (ids_of is) i 0
 
 -- ---- an item goes
 

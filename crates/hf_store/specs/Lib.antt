@@ -5,6 +5,7 @@ pub mod Layout
 pub mod Lists
 pub mod Picks
 pub mod Plain
+pub mod Seen
 pub mod Store
 pub mod Table
 pub mod Valid
