@@ -253,7 +253,7 @@ bytes-part p (i ∷ is) =
       | inr not_here ↦ rw not_here (simp length-append (omega (arith, rest)))
     ]
 
-length-ftyp_body : (b : Brands) → length b.major.0 ≡ 4 → length (ftyp_body b) ≡ 8 + length b.compatible
+pub length-ftyp_body : (b : Brands) → length b.major.0 ≡ 4 → length (ftyp_body b) ≡ 8 + length b.compatible
 unfolding ftyp_body
 length-ftyp_body b major = simp (length-append, length-num) (omega (arith, major))
 

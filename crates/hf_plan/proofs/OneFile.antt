@@ -16,7 +16,7 @@ pub some_has : (bytes : List ℕ) → 0 < length bytes → has_bytes bytes ≡ t
 some_has [] h = absurd (omega arith)
 some_has (b ∷ bs) h = refl
 
-none_has : (bytes : List ℕ) → length bytes ≡ 0 → has_bytes bytes ≡ false
+pub none_has : (bytes : List ℕ) → length bytes ≡ 0 → has_bytes bytes ≡ false
 none_has [] h = refl
 none_has (b ∷ bs) h = absurd (omega arith)
 

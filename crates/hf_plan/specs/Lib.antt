@@ -3,3 +3,5 @@ pub mod Large
 pub mod Laws
 pub mod Lay
 pub mod Places
+pub mod Plan
+pub mod Seen

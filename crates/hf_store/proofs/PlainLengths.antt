@@ -94,6 +94,14 @@ unfolding box_len
 length-iprp_body wide s plain =
     rw (iprp_body-plain wide s plain) (simp (length-append, length-num, length-box (four "ipco") [] refl, length-box (four "ipma") (full_box (id_version wide) 0 ++ num 0 4) refl) refl)
 
+pub length-ipco_body : (s : ItemStore) → ArePlain s.items → length (ipco_body (table_of s)) ≡ 0
+unfolding ipco_body
+length-ipco_body s plain = rw (no_table s plain) refl
+
+pub length-ipma_body : (wide : Bool) (s : ItemStore) → ArePlain s.items → length (ipma_body wide (table_of s) s.items) ≡ 8
+unfolding ipma_body
+length-ipma_body wide s plain = rw (no_table s plain, no_props s.items plain) (simp (length-append, length-num) (omega arith))
+
 pub length-hdlr_body : length hdlr_body ≡ 25
 unfolding hdlr_body
 length-hdlr_body = simp (length-append, length-num) (omega arith)
@@ -101,6 +109,15 @@ length-hdlr_body = simp (length-append, length-num) (omega arith)
 pub length-pitm_body : (wide : Bool) (id : ℕ) → length (pitm_body wide id) ≡ 4 + id_width wide
 unfolding pitm_body
 length-pitm_body wide id = simp (length-append, length-num) (omega arith)
+
+pub no_iref : (wide : Bool) (s : ItemStore) → IsPlain s → length (box_if_any (four "iref") (full_box (id_version wide) 0) (reference_boxes wide s.items)) ≡ 0
+no_iref wide s plain = rw (no_references wide s.items plain.items) (no_box (four "iref") (full_box (id_version wide) 0))
+
+pub no_grpl : (s : ItemStore) → IsPlain s → length (box_if_any (four "grpl") [] (flat_map group_box s.groups)) ≡ 0
+no_grpl s plain = rw plain.groups (no_box (four "grpl") [])
+
+pub no_idat_box : (s : ItemStore) → IsPlain s → length (box_if_any (four "idat") [] (idat_body s.items)) ≡ 0
+no_idat_box s plain = rw (no_idat s.items plain.items) (no_box (four "idat") [])
 
 -- what stands in `meta` before its `iloc`, with ids of so many bytes
 unfoldable pub front_len : ℕ → ℕ → ℕ
@@ -116,7 +133,4 @@ length-meta_front s good plain =
     length-box (four "iinf") (iinf_body wide s.items) refl ∙ ap box_len (length-iinf_body wide s.items s.items plain.items good)
     in
     let iprp : length (box (four "iprp") (iprp_body wide s)) ≡ 32 = length-box (four "iprp") (iprp_body wide s) refl ∙ ap box_len (length-iprp_body wide s plain.items) ∙ box_len-short 24 (omega arith) in
-    let iref : length (box_if_any (four "iref") (full_box (id_version wide) 0) (reference_boxes wide s.items)) ≡ 0 = rw (no_references wide s.items plain.items) (no_box (four "iref") (full_box (id_version wide) 0)) in
-    let grpl : length (box_if_any (four "grpl") [] (flat_map group_box s.groups)) ≡ 0 = rw plain.groups (no_box (four "grpl") []) in
-    let idat : length (box_if_any (four "idat") [] (idat_body s.items)) ≡ 0 = rw (no_idat s.items plain.items) (no_box (four "idat") []) in
-    simp (length-append, length-num) (omega (arith, hdlr, pitm, iinf, iprp, iref, grpl, idat))
+    simp (length-append, length-num) (omega (arith, hdlr, pitm, iinf, iprp, no_iref wide s plain, no_grpl s plain, no_idat_box s plain))
