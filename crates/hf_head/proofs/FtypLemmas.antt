@@ -1,14 +1,18 @@
 -- The brands that are read stand there, and the brands that stand there are read.
-use Rattle.std.proofs.Common.{◌≡◌, ℕ, ◌%◌, ◌^◌, ◌<◌, Bool, true, false, cond, eqb, List, ◌++◌, length, Result, Ok, Err, refl, sym, ap, subst, ◌∙◌, append_assoc, arith}
+use Rattle.std.proofs.Common.{◌≡◌, ℕ, ◌%◌, ◌^◌, ◌<◌, Bool, true, false, cond, eqb, List, ◌++◌, length, replicate, length-append, ◌+◌, Result, Ok, Err, refl, sym, ap, subst, ◌∙◌, append_assoc, arith}
 use Rattle.std.specs.Prelude.{IfOk, IsOkAnd}
 use Rattle.std.proofs.lemmas.Bool.{eqb-true, eq-eqb}
 use Rattle.hf_base.specs.declared.four.FourCc.{FourCc}
 use Rattle.hf_base.specs.declared.fault.ReadRefusal.{ReadRefusal}
 use Rattle.hf_base.specs.declared.fault.ReadRefusal.TheVariants.{BadRecord}
 use Rattle.hf_base.specs.declared.kinds.TheConstants.{FTYP}
+use borrow.Rule.Slice.PartMut.{put_mid}
 use Rattle.hf_base.specs.Number.{IsBytes, num}
+use Rattle.hf_base.specs.NumberLaws.{length-num}
 use Rattle.hf_base.specs.Reading.{◌>>=◌, Reads, front, front_four}
 use Rattle.hf_base.specs.ReadingLaws.{bind_ok, ok_is, front_takes, front_again, four_takes, four_again}
+use Rattle.hf_box.specs.Head.{box}
+use Rattle.hf_box.proofs.HeadLemmas.{box-compact}
 use Rattle.hf_head.specs.declared.ftyp.Brands.{Brands as BrandsView}
 use Rattle.hf_head.specs.Ftyp.{Brands, brands_of, IsFtyp, ftyp_at, ftyp_body}
 
@@ -51,3 +55,18 @@ one_value body some other p q = ok_is some other (sym (ftyp_only 0 body some p) 
 pub written_is : (b : Brands) → length b.major.0 ≡ 4 → b.minor < 256 ^ 4 → length b.compatible % 4 ≡ 0 → IsFtyp (ftyp_body b) b
 unfolding ftyp_body
 written_is b four minor fours = (four, minor, fours, append_assoc b.major.0 (num b.minor 4) b.compatible)
+
+-- ---- the box that is written
+
+length-body : (b : Brands) → length b.major.0 ≡ 4 → length (ftyp_body b) ≡ 8 + length b.compatible
+unfolding ftyp_body
+length-body b four = simp (length-append, length-num) (omega (arith, four))
+
+-- the sixteen bytes in front of the compatible brands
+pub front_is : (major : FourCc) (minor : ℕ) (compatible : List ℕ) (len : ℕ) → length major.0 ≡ 4 → length compatible ≡ len → len + 16 < 256 ^ 4
+    → put_mid 8 4 (num (len + 16) 4 ++ FTYP.0 ++ replicate 4 0 ++ num minor 4) major.0 ++ compatible ≡ box FTYP (ftyp_body (record { major = major; minor = minor; compatible = compatible }))
+unfolding num ftyp_body
+front_is major minor compatible len four same lt =
+    let b : Brands = record { major = major; minor = minor; compatible = compatible } in
+    let size : len + 16 ≡ 8 + length (ftyp_body b) = omega (arith, length-body b four, same) in
+    rw size (sym (box-compact FTYP (ftyp_body b) (omega (arith, lt, size))))

@@ -1,12 +1,17 @@
 //! `ftyp`: FileTypeBox of ISO/IEC 14496-12.
 
-ghost use Rattle.std.specs.Prelude.{◌≡◌, List, IfOk, IsOkAnd};
+ghost use Rattle.std.specs.Prelude.{◌≡◌, ◌≤◌, ◌++◌, ℕ, List, true, length, IfOk, IsOkAnd};
 ghost use Rattle.hf_base.specs.Reading.{Reads};
-ghost use Rattle.hf_head.specs.Ftyp.{Brands as Stated, IsFtyp, brands_of, ftyp_at};
+ghost use Rattle.hf_base.specs.declared.limits.TheConstants.{FILE};
+ghost use Rattle.hf_box.specs.Head.{box};
+ghost use Rattle.hf_desk.specs.Outside.{Outside};
+ghost use Rattle.hf_desk.specs.Calls.{Puts};
+ghost use Rattle.hf_head.specs.Ftyp.{Brands as Stated, IsFtyp, brands_of, ftyp_at, ftyp_body};
 
 use hf_base::kinds::FTYP;
-use hf_base::{FourCc, ReadRefusal, front_kind, front32};
+use hf_base::{FourCc, ReadRefusal, be_put, front_kind, front32};
 use hf_box::BoxView;
+use hf_desk::{Desk, WriteFault, put_all};
 
 /// The brands of a file (FileTypeBox of ISO/IEC 14496-12).
 #[derive(Clone, Copy, Debug)]
@@ -58,4 +63,30 @@ pub fn read_ftyp<'a>(view: &BoxView<'a>) -> Result<Brands<'a>, ReadRefusal>
     ensures exact { Reads brands_of result (ftyp_at view.now.at view.now.body.now) }
 {
     ftyp_in(view.body, view.at)
+}
+
+/// The header of a `ftyp` with `len` bytes of compatible brands, and the fields in front of them.
+fn front_of(major: FourCc, minor: u32, len: u64) -> [u8; 16]
+    requires { len ≤ FILE }
+    ensures { (compatible : List ℕ) → length compatible ≡ len →
+        result ++ compatible ≡ box FTYP (ftyp_body (record { major = major; minor = minor; compatible = compatible })) }
+{
+    let mut bytes = [0u8; 16];
+    be_put(&mut bytes, 0, 4, len + 16);
+    bytes[4..8].copy_from_slice(&FTYP.0);
+    be_put(&mut bytes, 12, 4, minor as u64);
+    bytes[8..12].copy_from_slice(&major.0);
+    bytes
+}
+
+/// Puts a whole `ftyp` with these brands. `WriteFault` comes only where the desk failed; then some
+/// front of the box was put.
+pub fn put_ftyp<D: Desk>(brands: &Brands<'_>, desk: &mut D) -> Result<(), WriteFault>
+    requires creating { (D.outside desk.old).creating ≡ true }
+    requires within { length brands.now.compatible.now ≤ FILE }
+    ensures { Puts (D.outside desk.old) (box FTYP (ftyp_body (brands_of brands.now))) result (D.outside desk.new) }
+{
+    let front = front_of(brands.major, brands.minor, brands.compatible.len() as u64);
+    put_all(desk, &front)?;
+    put_all(desk, brands.compatible)
 }

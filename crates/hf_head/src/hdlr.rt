@@ -1,12 +1,16 @@
 //! `hdlr`: HandlerBox of ISO/IEC 14496-12.
 
-ghost use Rattle.std.specs.Prelude.{◌≡◌, List, IsOk, OnOk};
+ghost use Rattle.std.specs.Prelude.{◌≡◌, List, true, IsOk, OnOk};
 ghost use Rattle.hf_base.specs.Reading.{Reads};
-ghost use Rattle.hf_head.specs.Hdlr.{IsHdlr, handler_at, hdlr_at};
+ghost use Rattle.hf_box.specs.Head.{box};
+ghost use Rattle.hf_desk.specs.Outside.{Outside};
+ghost use Rattle.hf_desk.specs.Calls.{Puts};
+ghost use Rattle.hf_head.specs.Hdlr.{IsHdlr, handler_at, hdlr_at, hdlr_body};
 
 use hf_base::kinds::{HDLR, PICT};
-use hf_base::{FourCc, ReadRefusal, front_kind, front_version, front32};
+use hf_base::{FourCc, ReadRefusal, be_put, front_kind, front_version, front32};
 use hf_box::BoxView;
+use hf_desk::{Desk, WriteFault, put_all};
 
 /// The handler type in a body, with the place of its box.
 #[tactic(auto, unfolding(crate::specs::Hdlr::handler_at))]
@@ -57,4 +61,25 @@ pub fn read_hdlr(view: &BoxView<'_>) -> Result<(), ReadRefusal>
     ensures exact { Reads (λ x. x) result (hdlr_at view.now.at view.now.body.now) }
 {
     hdlr_in(view.body, view.at)
+}
+
+/// A `hdlr` with the handler of pictures and no name.
+fn picture_box() -> [u8; 33]
+    ensures { result ≡ box HDLR hdlr_body }
+{
+    let mut bytes = [0u8; 33];
+    be_put(&mut bytes, 0, 4, 33);
+    bytes[4..8].copy_from_slice(&HDLR.0);
+    bytes[16..20].copy_from_slice(&PICT.0);
+    bytes
+}
+
+/// Puts a whole `hdlr` with the handler of pictures (ISO/IEC 23008-12) and no name. `WriteFault` comes
+/// only where the desk failed; then some front of the box was put.
+pub fn put_hdlr<D: Desk>(desk: &mut D) -> Result<(), WriteFault>
+    requires { (D.outside desk.old).creating ≡ true }
+    ensures { Puts (D.outside desk.old) (box HDLR hdlr_body) result (D.outside desk.new) }
+{
+    let bytes = picture_box();
+    put_all(desk, &bytes)
 }

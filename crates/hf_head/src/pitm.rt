@@ -1,12 +1,17 @@
 //! `pitm`: PrimaryItemBox of ISO/IEC 14496-12.
 
-ghost use Rattle.std.specs.Prelude.{◌≡◌, ℕ, List, IfOk, Ok};
+ghost use Rattle.std.specs.Prelude.{◌≡◌, ◌<◌, ◌^◌, ℕ, List, true, false, IfOk, Ok};
 ghost use Rattle.hf_base.specs.Reading.{Reads};
-ghost use Rattle.hf_head.specs.Pitm.{IsPitm, pitm_at, id_at};
+ghost use Rattle.hf_box.specs.Head.{box};
+ghost use Rattle.hf_box.specs.Written.{id_width};
+ghost use Rattle.hf_desk.specs.Outside.{Outside};
+ghost use Rattle.hf_desk.specs.Calls.{Puts};
+ghost use Rattle.hf_head.specs.Pitm.{IsPitm, pitm_at, id_at, pitm_body};
 
 use hf_base::kinds::PITM;
-use hf_base::{ReadRefusal, front_version, front16, front32};
+use hf_base::{ReadRefusal, be_put, front_version, front16, front32};
 use hf_box::BoxView;
+use hf_desk::{Desk, WriteFault, put_all};
 
 /// The id behind a version and flags, with the place of its box.
 #[tactic(auto, unfolding(crate::specs::Pitm::id_at))]
@@ -57,4 +62,41 @@ pub fn read_pitm(view: &BoxView<'_>) -> Result<u32, ReadRefusal>
     ensures exact { Reads (λ id. id) result (pitm_at view.now.at view.now.body.now) }
 {
     pitm_in(view.body, view.at)
+}
+
+/// A `pitm` with an id of two bytes, in version 0.
+fn narrow_box(id: u32) -> [u8; 14]
+    requires { id < 256 ^ 2 }
+    ensures { result ≡ box PITM (pitm_body false id) }
+{
+    let mut bytes = [0u8; 14];
+    be_put(&mut bytes, 0, 4, 14);
+    bytes[4..8].copy_from_slice(&PITM.0);
+    be_put(&mut bytes, 12, 2, id as u64);
+    bytes
+}
+
+/// A `pitm` with an id of four bytes, in version 1.
+fn wide_box(id: u32) -> [u8; 16]
+    ensures { result ≡ box PITM (pitm_body true id) }
+{
+    let mut bytes = [0u8; 16];
+    be_put(&mut bytes, 0, 4, 16);
+    bytes[4..8].copy_from_slice(&PITM.0);
+    bytes[8] = 1;
+    be_put(&mut bytes, 12, 4, id as u64);
+    bytes
+}
+
+/// Puts a whole `pitm` with the id of the primary item, which takes four bytes where `wide` and two
+/// otherwise. `WriteFault` comes only where the desk failed; then some front of the box was put.
+pub fn put_pitm<D: Desk>(id: u32, wide: bool, desk: &mut D) -> Result<(), WriteFault>
+    requires creating { (D.outside desk.old).creating ≡ true }
+    requires fits { id < 256 ^ id_width wide }
+    ensures { Puts (D.outside desk.old) (box PITM (pitm_body wide id)) result (D.outside desk.new) }
+{
+    if wide {
+        return put_all(desk, &wide_box(id));
+    }
+    put_all(desk, &narrow_box(id))
 }

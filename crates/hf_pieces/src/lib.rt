@@ -1,13 +1,10 @@
-// A library with one function.
+//! Bytes that lie in pieces of one file. This is the project's own.
 #![tactic(auto)]
 
-ghost use Rattle.std.specs.Prelude.{◌≡◌};
-ghost use Rattle.hf_pieces.specs.Echo.{echo_of};
+mod pieces;
 
-// The `ensures` clause is the contract: what `echo` returns is `echo_of` of its argument, a definition
-// in `specs/Echo.antt`, which a caller's clause can cite too.
-pub fn echo(x: usize) -> usize
-    ensures { result ≡ echo_of x }
-{
-    x
-}
+pub use pieces::Pieces;
+
+
+#[cfg(test)]
+mod tests;

@@ -1,0 +1,96 @@
+use super::*;
+use hf_base::kinds::{FTYP, HDLR, PITM};
+use hf_base::{FourCc, ReadRefusal};
+use hf_box::BoxView;
+use hf_desk::{Desk, MemoryDesk};
+use std::test::Fail;
+
+/// A `ftyp` of the brands `heic`, `mif1` and `heic`.
+const BRANDS: [u8; 24] = *b"\0\0\0\x18ftypheic\0\0\0\0mif1heic";
+
+/// A `hdlr` of pictures.
+const HANDLER: [u8; 33] = *b"\0\0\0\x21hdlr\0\0\0\0\0\0\0\0pict\0\0\0\0\0\0\0\0\0\0\0\0\0";
+
+/// A `pitm` of item 1.
+const PRIMARY: [u8; 14] = *b"\0\0\0\x0epitm\0\0\0\0\0\x01";
+
+/// A `pitm` of item 70,000.
+const WIDE_PRIMARY: [u8; 16] = *b"\0\0\0\x10pitm\x01\0\0\0\0\x01\x11\x70";
+
+fn view<'a>(kind: FourCc, body: &'a [u8]) -> BoxView<'a> {
+    BoxView {
+        kind,
+        at: 36,
+        head: 8,
+        body,
+    }
+}
+
+#[test]
+fn brands_are_read_and_put(rt: HostRuntime) -> Result<(), Fail> {
+    let brands = read_ftyp(&view(FTYP, &BRANDS[8..])).ok().ok_or("the brands are read")?;
+    assert_eq!(rt; brands.major, FourCc(*b"heic"));
+    assert_eq!(rt; brands.minor, 0);
+    assert_eq!(rt; brands.compatible, b"mif1heic".as_slice());
+    let mut desk = MemoryDesk::new(rt.alloc());
+    desk.create("new")?;
+    put_ftyp(&brands, &mut desk)?;
+    assert_eq!(rt; desk.made(), Some(BRANDS.as_slice()));
+    assert_eq!(rt;
+        read_ftyp(&view(FTYP, &BRANDS[8..22])).err(),
+        Some(ReadRefusal::BadRecord { kind: FTYP, at: 36 })
+    );
+    Ok(())
+}
+
+#[test]
+fn the_handler_is_read_and_put(rt: HostRuntime) -> Result<(), Fail> {
+    assert_eq!(rt; read_hdlr(&view(HDLR, &HANDLER[8..])), Ok(()));
+    assert_eq!(rt;
+        read_hdlr(&view(HDLR, &HANDLER[8..31])),
+        Err(ReadRefusal::BadRecord { kind: HDLR, at: 36 })
+    );
+    assert_eq!(rt;
+        read_hdlr(&view(HDLR, &[b'v'; 24])),
+        Err(ReadRefusal::NotPicture)
+    );
+    let mut desk = MemoryDesk::new(rt.alloc());
+    desk.create("new")?;
+    put_hdlr(&mut desk)?;
+    assert_eq!(rt; desk.made(), Some(HANDLER.as_slice()));
+    Ok(())
+}
+
+#[test]
+fn the_primary_item_is_read_and_put(rt: HostRuntime) -> Result<(), Fail> {
+    assert_eq!(rt; read_pitm(&view(PITM, &PRIMARY[8..])), Ok(1));
+    assert_eq!(rt; read_pitm(&view(PITM, &WIDE_PRIMARY[8..])), Ok(70_000));
+    assert_eq!(rt;
+        read_pitm(&view(PITM, &[2, 0, 0, 0])),
+        Err(ReadRefusal::BadVersion { kind: PITM, at: 36 })
+    );
+    let mut desk = MemoryDesk::new(rt.alloc());
+    desk.create("new")?;
+    put_pitm(1, false, &mut desk)?;
+    assert_eq!(rt; desk.made(), Some(PRIMARY.as_slice()));
+    let mut desk = MemoryDesk::new(rt.alloc());
+    desk.create("new")?;
+    put_pitm(70_000, true, &mut desk)?;
+    assert_eq!(rt; desk.made(), Some(WIDE_PRIMARY.as_slice()));
+    Ok(())
+}
+
+#[test]
+fn a_put_that_fails_ends_the_box(rt: HostRuntime) -> Result<(), Fail> {
+    let mut desk = MemoryDesk::new(rt.alloc());
+    desk.create("new")?;
+    desk.fail(3)?;
+    let brands = Brands {
+        major: FourCc(*b"heic"),
+        minor: 0,
+        compatible: b"mif1heic",
+    };
+    assert!(rt; put_ftyp(&brands, &mut desk).is_err());
+    assert_eq!(rt; desk.made(), Some(&BRANDS[..16]));
+    Ok(())
+}
