@@ -1,7 +1,9 @@
 pub mod Bounds
 pub mod CanonicalFiles
+pub mod Counts
 pub mod Large
 pub mod Lengths
 pub mod LongOffsets
 pub mod OneFile
 pub mod Places
+pub mod Plans

@@ -31,13 +31,13 @@ parts_of (j ∷ js) i (inr h) =
     let rest = parts_of js i h in
     record { before = j ∷ rest.before; after = rest.after; parts = ap (λ (l : List Item). j ∷ l) rest.parts }
 
-abbrev AreAbove : ℕ → List Item → Type 0
+abbrev pub AreAbove : ℕ → List Item → Type 0
 AreAbove low is = AllByRecursion (λ (j : Item). low < j.id) is
 
 abbrev AreBelow : ℕ → List Item → Type 0
 AreBelow top is = AllByRecursion (λ (j : Item). j.id < top) is
 
-above : (low first : ℕ) (is : List Item) → low ≤ first → RisesFrom ◌<◌ first (ids_of is) → AreAbove low is
+pub above : (low first : ℕ) (is : List Item) → low ≤ first → RisesFrom ◌<◌ first (ids_of is) → AreAbove low is
 above low first [] le rises = tt
 above low first (j ∷ js) le rises = (omega (arith, rises.0), above low j.id js (omega (arith, rises.0)) rises.1)
 
@@ -50,7 +50,7 @@ around low (j ∷ js) after i rises =
 
 -- ---- what tests pass
 
-both_pass : (p q : Item → Bool) (is : List Item) → AllByRecursion (λ (j : Item). q j ≡ true) is → filter q (filter p is) ≡ filter p is
+pub both_pass : (p q : Item → Bool) (is : List Item) → AllByRecursion (λ (j : Item). q j ≡ true) is → filter q (filter p is) ≡ filter p is
 both_pass p q [] pass = refl
 both_pass p q (j ∷ js) pass =
     let rest = both_pass p q js pass.1 in
@@ -72,7 +72,7 @@ not_from : (id : ℕ) (is : List Item) → AreBelow id is → AllByRecursion (λ
 not_from id [] below = tt
 not_from id (j ∷ js) below = (lt-leb _ _ below.0, not_from id js below.1)
 
-all_from : (id : ℕ) (is : List Item) → AreAbove id is → AllByRecursion (λ (j : Item). leb id j.id ≡ true) is
+pub all_from : (id : ℕ) (is : List Item) → AreAbove id is → AllByRecursion (λ (j : Item). leb id j.id ≡ true) is
 all_from id [] above = tt
 all_from id (j ∷ js) above = (le-leb _ _ (omega (arith, above.0)), all_from id js above.1)
 

@@ -4,6 +4,7 @@ use Rattle.hf_store.specs.Store.{ItemStore}
 use Rattle.hf_store.specs.Valid.{body_sum, Valid}
 use Rattle.hf_plan.specs.Lay.{Lay}
 use Rattle.hf_plan.specs.Canon.{Canon}
+use Rattle.hf_plan.specs.Plan.{offset_width, Planned, IsPlan}
 
 -- a valid store has a canonical file
 abbrev pub HasCanon : Type 0
@@ -20,3 +21,7 @@ NarrowIsShorter = (s : ItemStore) (F G : List ℕ) → Lay s 4 F → Lay s 8 G �
 -- and one as long where none has
 abbrev pub NarrowIsAsLong : Type 0
 NarrowIsAsLong = (s : ItemStore) (F G : List ℕ) → Lay s 4 F → Lay s 8 G → body_sum s.items ≡ 0 → length F ≡ length G
+
+-- a plan is that of the canonical file: it has its length, and its width of offsets
+abbrev pub PlanIsCanon : Type 0
+PlanIsCanon = (s : ItemStore) (p : Planned) (F : List ℕ) → Valid s → IsPlan s p → Canon s F → Lay s (offset_width p.long) F × (length F ≡ p.total)

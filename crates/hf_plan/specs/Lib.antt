@@ -5,3 +5,5 @@ pub mod Laws
 pub mod Lay
 pub mod LongOffsets
 pub mod Places
+pub mod Plan
+pub mod Seen

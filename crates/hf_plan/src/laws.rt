@@ -1,6 +1,6 @@
 //! Laws of the canonical file. Each is the contract of a function that does nothing.
 
-ghost use Rattle.hf_plan.specs.Laws.{HasCanon, OneCanon, NarrowIsAsLong, NarrowIsShorter};
+ghost use Rattle.hf_plan.specs.Laws.{HasCanon, OneCanon, NarrowIsAsLong, NarrowIsShorter, PlanIsCanon};
 ghost use Rattle.hf_plan.specs.Places.{BytesStand};
 
 /// Each valid store has one canonical file, and only one.
@@ -20,4 +20,9 @@ pub fn narrow_layout_is_shorter()
 /// of `idat`.
 pub fn bytes_stand_at_their_offsets()
     ensures { BytesStand }
+{}
+
+/// The plan of a store is that of its canonical file: it has the length and the offsets' width.
+pub fn plan_is_of_the_canonical_file()
+    ensures { PlanIsCanon }
 {}

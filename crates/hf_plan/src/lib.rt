@@ -1,5 +1,12 @@
-//! The plan of a canonical file: what the file is.
+//! The canonical file of a store: what it is, and its plan.
 #![tactic(auto)]
 
 pub mod laws;
+mod planned;
+mod planning;
+mod sizes;
 pub mod worked;
+
+pub use planned::Plan;
+pub use planning::plan;
+pub use sizes::Sizes;

@@ -61,3 +61,10 @@ le-box kind body = simp length-append (omega arith)
 pub box_is : (kind : FourCc) (body : List ℕ) (n : ℕ) → length body ≡ n → box kind body ≡ box_head kind n ++ body
 unfolding box
 box_is kind body n e = ap (λ (k : ℕ). box_head kind k ++ body) e
+
+pub box_len-mono : (a b : ℕ) → a ≤ b → box_len a ≤ box_len b
+box_len-mono a b h =
+    elim (box_len-cases a) [
+      | inl p ↦ elim (box_len-cases b) [ inl q ↦ omega (arith, p.1, q.1) | inr q ↦ omega (arith, p.1, q.1) ]
+      | inr p ↦ elim (box_len-cases b) [ inl q ↦ absurd (omega (arith, p.0, q.0)) | inr q ↦ omega (arith, p.1, q.1) ]
+    ]

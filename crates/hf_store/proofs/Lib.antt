@@ -6,6 +6,10 @@ pub mod LaidFiles
 pub mod LargeStores
 pub mod Lengths
 pub mod References
+pub mod Places
+pub mod PlainLengths
 pub mod RefusedStores
+pub mod Removals
+pub mod Spots
 pub mod Tables
 pub mod ValidStores

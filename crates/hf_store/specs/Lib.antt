@@ -1,10 +1,13 @@
 pub mod BadStores
+pub mod Changes
 pub mod Derived
 pub mod LargeStores
 pub mod Layout
 pub mod Lists
 pub mod Picks
 pub mod References
+pub mod Plain
+pub mod Seen
 pub mod Store
 pub mod Table
 pub mod Valid

@@ -1,5 +1,6 @@
 //! Laws of the item store. Each is the contract of a function that does nothing.
 
+ghost use Rattle.hf_store.specs.Changes.{StepsKeepValidity, StepsKeepPlain};
 ghost use Rattle.hf_store.specs.Picks.{NumbersSelect, SelectsOnce};
 ghost use Rattle.hf_store.specs.References.{BoxesAreWritten, ReferencesComeBack, ReferencesOnce};
 
@@ -16,4 +17,10 @@ pub fn references_come_back()
     ensures written { BoxesAreWritten }
     ensures back { ReferencesComeBack }
     ensures once { ReferencesOnce }
+{}
+
+/// An edit against which there is no reason leaves a plain store valid and plain.
+pub fn steps_keep_validity()
+    ensures valid { StepsKeepValidity }
+    ensures plain { StepsKeepPlain }
 {}

@@ -2,5 +2,12 @@
 #![tactic(auto)]
 
 pub mod broken;
+mod item;
 pub mod laws;
+mod reason;
+mod store;
 pub mod worked;
+
+pub use item::Item;
+pub use reason::Reason;
+pub use store::{Parts, Store};

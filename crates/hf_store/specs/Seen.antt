@@ -1,0 +1,22 @@
+-- What the types of the code stand for.
+use Rattle.std.specs.Prelude.{List, [], false, map}
+use Rattle.std.specs.List.{concat}
+use Rattle.hf_head.specs.Ftyp.{brands_of}
+use Rattle.hf_store.specs.Store.{Item as StatedItem, ItemStore}
+use Rattle.hf_store.specs.declared.item.Item.{Item}
+use Rattle.hf_store.specs.declared.store.Parts.{Parts}
+use Rattle.hf_store.specs.declared.store.Store.TheInside.{Inside}
+
+-- an item that is not hidden, and has no string, property or reference
+abbrev pub item_of : Item → StatedItem
+item_of i = record { id = i.id; kind = i.kind; hidden = false; name = []; content = []; encoding = []; uri = []; bytes = concat i.body; props = []; refs = [] }
+
+abbrev pub items_of : List Item → List StatedItem
+items_of is = map item_of is
+
+-- the store that these parts are, without groups
+abbrev pub stated : Parts → ItemStore
+stated p = record { brands = brands_of p.brands; primary = p.primary; items = items_of p.items.items; groups = [] }
+
+abbrev pub store_of : Inside → ItemStore
+store_of s = record { brands = brands_of s.brands; primary = s.primary; items = items_of s.items.items; groups = [] }
