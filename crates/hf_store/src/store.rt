@@ -120,6 +120,8 @@ impl<'a> Store<'a> {
     pub fn position(&self, id: u32) -> Option<usize>
         ensures some { IfSome result (λ i. slice_get (ids_of self.now.items) i ≡ Some id) }
         ensures none { IfNone result (IsIn id (ids_of self.now.items) → ⊥) }
+        ensures valid { Valid self.now }
+        ensures plain { IsPlain self.now }
     {
         let mut low = 0;
         let mut high = self.len();
