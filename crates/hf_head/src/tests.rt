@@ -1,3 +1,6 @@
+ghost use Rattle.std.specs.Prelude.{◌≡◌, ◌≤◌, length};
+ghost use Rattle.hf_base.specs.declared.limits.TheConstants.{FILE};
+
 use super::*;
 use hf_base::kinds::{FTYP, HDLR, PITM};
 use hf_base::{FourCc, ReadRefusal};
@@ -17,7 +20,9 @@ const PRIMARY: [u8; 14] = *b"\0\0\0\x0epitm\0\0\0\0\0\x01";
 /// A `pitm` of item 70,000.
 const WIDE_PRIMARY: [u8; 16] = *b"\0\0\0\x10pitm\x01\0\0\0\0\x01\x11\x70";
 
-fn view<'a>(kind: FourCc, body: &'a [u8]) -> BoxView<'a> {
+fn view<'a>(kind: FourCc, body: &'a [u8]) -> BoxView<'a>
+    ensures { result.kind ≡ kind }
+{
     BoxView {
         kind,
         at: 36,
@@ -26,15 +31,27 @@ fn view<'a>(kind: FourCc, body: &'a [u8]) -> BoxView<'a> {
     }
 }
 
+fn heic() -> Brands<'static>
+    ensures { length result.compatible.now ≤ FILE }
+{
+    Brands {
+        major: FourCc(*b"heic"),
+        minor: 0,
+        compatible: b"mif1heic",
+    }
+}
+
 #[test]
 fn brands_are_read_and_put(rt: HostRuntime) -> Result<(), Fail> {
-    let brands = read_ftyp(&view(FTYP, &BRANDS[8..])).ok().ok_or("the brands are read")?;
+    let brands = read_ftyp(&view(FTYP, &BRANDS[8..]))
+        .ok()
+        .ok_or("the brands are read")?;
     assert_eq!(rt; brands.major, FourCc(*b"heic"));
     assert_eq!(rt; brands.minor, 0);
     assert_eq!(rt; brands.compatible, b"mif1heic".as_slice());
     let mut desk = MemoryDesk::new(rt.alloc());
     desk.create("new")?;
-    put_ftyp(&brands, &mut desk)?;
+    put_ftyp(&heic(), &mut desk)?;
     assert_eq!(rt; desk.made(), Some(BRANDS.as_slice()));
     assert_eq!(rt;
         read_ftyp(&view(FTYP, &BRANDS[8..22])).err(),
@@ -50,8 +67,9 @@ fn the_handler_is_read_and_put(rt: HostRuntime) -> Result<(), Fail> {
         read_hdlr(&view(HDLR, &HANDLER[8..31])),
         Err(ReadRefusal::BadRecord { kind: HDLR, at: 36 })
     );
+    let other = [b'v'; 24];
     assert_eq!(rt;
-        read_hdlr(&view(HDLR, &[b'v'; 24])),
+        read_hdlr(&view(HDLR, &other)),
         Err(ReadRefusal::NotPicture)
     );
     let mut desk = MemoryDesk::new(rt.alloc());
@@ -62,17 +80,31 @@ fn the_handler_is_read_and_put(rt: HostRuntime) -> Result<(), Fail> {
 }
 
 #[test]
-fn the_primary_item_is_read_and_put(rt: HostRuntime) -> Result<(), Fail> {
-    assert_eq!(rt; read_pitm(&view(PITM, &PRIMARY[8..])), Ok(1));
-    assert_eq!(rt; read_pitm(&view(PITM, &WIDE_PRIMARY[8..])), Ok(70_000));
+fn the_primary_item_is_read(rt: HostRuntime) -> Result<(), Fail> {
+    assert_eq!(rt; read_pitm(&view(PITM, &PRIMARY[8..])).ok(), Some(1));
     assert_eq!(rt;
-        read_pitm(&view(PITM, &[2, 0, 0, 0])),
-        Err(ReadRefusal::BadVersion { kind: PITM, at: 36 })
+        read_pitm(&view(PITM, &WIDE_PRIMARY[8..])).ok(),
+        Some(70_000)
     );
+    let later = [2, 0, 0, 0];
+    assert_eq!(rt;
+        read_pitm(&view(PITM, &later)).err(),
+        Some(ReadRefusal::BadVersion { kind: PITM, at: 36 })
+    );
+    Ok(())
+}
+
+#[test]
+fn a_narrow_primary_item_is_put(rt: HostRuntime) -> Result<(), Fail> {
     let mut desk = MemoryDesk::new(rt.alloc());
     desk.create("new")?;
     put_pitm(1, false, &mut desk)?;
     assert_eq!(rt; desk.made(), Some(PRIMARY.as_slice()));
+    Ok(())
+}
+
+#[test]
+fn a_wide_primary_item_is_put(rt: HostRuntime) -> Result<(), Fail> {
     let mut desk = MemoryDesk::new(rt.alloc());
     desk.create("new")?;
     put_pitm(70_000, true, &mut desk)?;
@@ -85,12 +117,7 @@ fn a_put_that_fails_ends_the_box(rt: HostRuntime) -> Result<(), Fail> {
     let mut desk = MemoryDesk::new(rt.alloc());
     desk.create("new")?;
     desk.fail(3)?;
-    let brands = Brands {
-        major: FourCc(*b"heic"),
-        minor: 0,
-        compatible: b"mif1heic",
-    };
-    assert!(rt; put_ftyp(&brands, &mut desk).is_err());
+    assert!(rt; put_ftyp(&heic(), &mut desk).is_err());
     assert_eq!(rt; desk.made(), Some(&BRANDS[..16]));
     Ok(())
 }
