@@ -1,10 +1,9 @@
 -- What is counted over the items of a store, item by item.
-use Rattle.std.proofs.Common.{◌≡◌, ℕ, zero, suc, ◌+◌, ◌-◌, ◌^◌, ◌<◌, ◌≤◌, Bool, true, false, not, ◌&&◌, ◌||◌, cond, leb, List, [], ◌∷◌, ◌++◌, length, length-append, map, drop, refl, sym, ap, ◌∙◌, append_assoc, arith, inl, inr, Option, Some, None}
+use Rattle.std.proofs.Common.{◌≡◌, ℕ, zero, suc, ◌+◌, ◌^◌, ◌<◌, ◌≤◌, Bool, true, false, not, ◌&&◌, ◌||◌, cond, leb, List, [], ◌∷◌, ◌++◌, length, length-append, map, drop, refl, sym, ap, ◌∙◌, append_assoc, arith, inl, inr, Some, None}
 use Rattle.std.specs.Prelude.{◌==◌, slice_get}
 use Rattle.std.specs.List.{AllByRecursion, filter}
 use Rattle.std.proofs.lemmas.Bool.{cases_Bool, and_from, eq-eqb, le-leb, lt-leb}
 use Rattle.std.proofs.lemmas.List.{drop_all, append-nil}
-use Rattle.hf_base.specs.declared.limits.TheConstants as limits
 use Rattle.hf_store.specs.Lists.{RisesFrom}
 use Rattle.hf_store.specs.Store.{Item, ItemStore, ids_of}
 use Rattle.hf_store.specs.Layout.{own, is_wide, has_bytes, with_bytes, in_idat, is_data_item, bytes_in, mdat_body, mdat_offset, offset_of}
@@ -50,10 +49,10 @@ located-le (i ∷ is) =
 
 -- ---- the bytes that are written
 
-abbrev is_written : Item → Bool
+abbrev pub is_written : Item → Bool
 is_written i = is_data_item i && (i.id == i.id)
 
-written-plain : (i : Item) → IsPlainItem i → is_written i ≡ has_bytes i.bytes
+pub written-plain : (i : Item) → IsPlainItem i → is_written i ≡ has_bytes i.bytes
 written-plain i plain =
     elim (cases_Bool (has_bytes i.bytes)) [
       | inl some ↦ and_from (is_data_item i) (i.id == i.id) (and_from (has_bytes i.bytes) (not (in_idat i)) some (ap not (not_in_idat i plain))) (eq-eqb i.id i.id refl) ∙ sym some

@@ -1,17 +1,14 @@
 -- The sums of the plan are the lengths of the layout, and a plan gives the canonical file.
-use Rattle.std.proofs.Common.{◌≡◌, ℕ, ◌+◌, ◌*◌, ◌^◌, ◌<◌, ◌≤◌, Bool, true, false, leb, List, [], length, refl, sym, ap, ◌∙◌, subst, arith, inl, inr}
+use Rattle.std.proofs.Common.{◌≡◌, ℕ, ◌+◌, ◌*◌, ◌^◌, ◌<◌, ◌≤◌, Bool, true, false, List, length, refl, sym, ap, ◌∙◌, subst, arith, inl, inr}
 use Rattle.std.specs.Prelude.{nat_le}
-use Rattle.std.specs.List.{flat_map}
 use Rattle.std.proofs.lemmas.Bool.{leb-true, leb-false}
-use Rattle.hf_base.specs.Reading.{full as full_box}
-use Rattle.hf_base.specs.Number.{num}
-use Rattle.hf_box.specs.Head.{box, box_len}
+use Rattle.hf_box.specs.Head.{box_len}
 use Rattle.hf_box.specs.Literals.{four}
-use Rattle.hf_box.specs.Written.{id_width, id_version}
+use Rattle.hf_box.specs.Written.{id_width}
 use Rattle.hf_head.specs.Ftyp.{ftyp_body}
 use Rattle.hf_store.specs.Store.{ItemStore}
 use Rattle.hf_store.specs.Table.{table_of}
-use Rattle.hf_store.specs.Layout.{own, is_wide, with_bytes, iinf_body, reference_boxes, ipco_body, ipma_body, iprp_body, group_box, box_if_any, idat_body, iloc_body, mdat_body, meta_front, meta_body, laid}
+use Rattle.hf_store.specs.Layout.{own, is_wide, with_bytes, iinf_body, ipco_body, ipma_body, iprp_body, iloc_body, mdat_body, meta_body, laid}
 use Rattle.hf_store.specs.Valid.{body_sum, Valid}
 use Rattle.hf_store.specs.Plain.{IsPlain}
 use Rattle.hf_store.proofs.BoxLengths.{length-box, box_len-short, le-box_len}

@@ -8,5 +8,5 @@ mod sizes;
 pub mod worked;
 
 pub use planned::Plan;
-pub use planning::plan;
+pub use planning::{located_count, plan};
 pub use sizes::Sizes;

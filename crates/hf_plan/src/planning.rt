@@ -26,7 +26,7 @@ fn has_wide_id(store: &Store<'_>) -> bool
 }
 
 /// How many items have bytes.
-fn located_count(store: &Store<'_>) -> u64
+pub fn located_count(store: &Store<'_>) -> u64
     ensures value { result ≡ length (with_bytes store.now.items) }
     ensures few { result ≤ limits.ITEMS }
     ensures valid { Valid store.now }

@@ -8,6 +8,7 @@ pub mod Lengths
 pub mod References
 pub mod Places
 pub mod PlainLengths
+pub mod Reasons
 pub mod RefusedStores
 pub mod Removals
 pub mod Spots

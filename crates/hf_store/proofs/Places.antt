@@ -2,7 +2,6 @@
 use Rattle.std.proofs.Common.{◌≡◌, ◌<◌, ℕ, List, length, sym, ap, subst, ◌∙◌}
 use Rattle.std.specs.List.{remove}
 use Rattle.std.specs.Global.{Vec}
-use Rattle.hf_head.specs.Ftyp.{brands_of}
 use Rattle.hf_store.specs.Store.{Item as StatedItem, ItemStore}
 use Rattle.hf_store.specs.Valid.{Valid}
 use Rattle.hf_store.specs.Plain.{IsPlain}

@@ -1,5 +1,5 @@
 -- What the boxes of a plain store hold, and how long they are.
-use Rattle.std.proofs.Common.{◌≡◌, ◌≢◌, ℕ, ◌+◌, ◌*◌, Bool, true, false, not, ◌&&◌, ◌||◌, List, [], ◌∷◌, ◌++◌, length, length-append, refl, sym, ap, ◌∙◌, arith, inl, inr, subst}
+use Rattle.std.proofs.Common.{◌≡◌, ◌≢◌, ℕ, ◌+◌, ◌*◌, Bool, true, false, List, [], ◌∷◌, ◌++◌, length, length-append, refl, ap, ◌∙◌, arith, inl, inr}
 use Rattle.std.specs.List.{AllByRecursion, flat_map, filter}
 use Rattle.std.proofs.lemmas.Bool.{cases_Bool}
 use Rattle.std.proofs.lemmas.List.{append-nil}
@@ -13,10 +13,10 @@ use Rattle.hf_box.specs.Walk.{is_kind}
 use Rattle.hf_box.specs.Written.{id_width, id_version}
 use Rattle.hf_head.specs.Hdlr.{hdlr_body}
 use Rattle.hf_head.specs.Pitm.{pitm_body}
-use Rattle.hf_store.specs.Store.{Prop, Item, ItemStore}
+use Rattle.hf_store.specs.Store.{Item, ItemStore}
 use Rattle.hf_store.specs.Table.{props_of, table_of}
 use Rattle.hf_store.specs.Layout.{is_wide, infe_body, infe_box, iinf_body, reference_boxes, ipco_body, ipma_body, iprp_body, has_props, in_idat, bytes_in, idat_body, box_if_any, meta_front, group_box}
-use Rattle.hf_store.specs.Valid.{IsFour, IsGoodItem, Valid}
+use Rattle.hf_store.specs.Valid.{IsFour, IsGoodItem}
 use Rattle.hf_store.specs.Plain.{IsPlainItem, ArePlain, IsPlain}
 use Rattle.hf_store.proofs.BoxLengths.{length-box, box_len-short}
 use Rattle.hf_store.proofs.Tables.{is_kind-is}

@@ -1,26 +1,23 @@
 -- What is left of a plain store without an item.
-use Rattle.std.proofs.Common.{◌≡◌, ◌≢◌, ℕ, zero, suc, ◌+◌, ◌*◌, ◌<◌, ◌≤◌, Bool, true, false, not, cond, ◌||◌, IsTrue, List, [], ◌∷◌, ◌++◌, length, length-append, eqb-true, map, take, drop, refl, sym, ap, ◌∙◌, arith, inl, inr, subst, Some, None}
+use Rattle.std.proofs.Common.{◌≡◌, ◌≢◌, ℕ, zero, suc, ◌+◌, ◌*◌, ◌<◌, ◌≤◌, Bool, true, false, not, cond, List, [], ◌∷◌, length, length-append, eqb-true, map, drop, refl, sym, ap, ◌∙◌, arith, inl, inr, subst, Some, None}
 use Rattle.std.specs.Prelude.{◌==◌, slice_get, option_map}
-use Rattle.std.specs.List.{AllByRecursion, list_any, flat_map, filter, remove, sum_by}
+use Rattle.std.specs.List.{AllByRecursion, list_any, flat_map, filter, remove}
 use Rattle.std.proofs.lemmas.Bool.{cases_Bool, or_parts, eq-eqb}
 use Rattle.std.proofs.lemmas.List.{drop_all}
 use Rattle.std.proofs.lemmas.List.Concat.{length-flat_map}
 use Rattle.std.proofs.lemmas.Nat.{mul-le}
-use Rattle.hf_base.specs.declared.limits.TheConstants as limits
-use Rattle.hf_box.specs.Head.{box_len}
 use Rattle.hf_store.specs.Lists.{IsIn, RisesFrom}
 use Rattle.hf_store.specs.Store.{RefList, Item, Group, ItemStore, ids_of}
-use Rattle.hf_store.specs.Table.{table_of}
-use Rattle.hf_store.specs.Derived.{inputs, input_pairs, IsEndless}
+use Rattle.hf_store.specs.Derived.{input_pairs, IsEndless}
 use Rattle.hf_box.specs.Written.{id_width}
 use Rattle.hf_store.specs.Layout.{is_wide, with_bytes, has_bytes, meta_front}
 use Rattle.hf_store.specs.Valid.{body_sum, meta_len, IsGoodRef, IsGoodItem, IsGoodGroup, Valid}
 use Rattle.hf_store.specs.Plain.{IsPlainItem, ArePlain, IsPlain}
-use Rattle.hf_store.specs.Changes.{id_at, cut_refs, cut_item, cut_group, group_stays, removed, needed_by, why_not_removed, Edit, Remove, step, why, StepsKeepValidity, StepsKeepPlain}
+use Rattle.hf_store.specs.Changes.{id_at, cut_refs, cut_item, cut_group, group_stays, removed, needed_by, why_not_removed, Remove, StepsKeepValidity, StepsKeepPlain}
 use Rattle.hf_store.specs.declared.reason.Reason.{Reason}
 use Rattle.hf_store.specs.declared.reason.Reason.TheVariants.{NoItem, IsPrimary, Needed}
 use Rattle.hf_store.proofs.BoxLengths.{box_len-mono}
-use Rattle.hf_store.proofs.Spots.{drop_here, map-remove, rises_at, id_here, at_or}
+use Rattle.hf_store.proofs.Spots.{drop_here}
 use Rattle.hf_store.proofs.Lengths.{meta_body_len, meta_len-is}
 use Rattle.hf_store.proofs.PlainLengths.{no_table, front_len, length-meta_front}
 

@@ -1,5 +1,5 @@
 -- What an edit makes of a store, and when it is refused. These rules are this project's own.
-use Rattle.std.specs.Prelude.{ℕ, ◌≡◌, ◌≢◌, ◌≤◌, ◌==◌, Bool, true, false, not, ◌&&◌, ◌||◌, IsTrue, List, [], ◌∷◌, length, map, filter, Option, Some, None, option_map, if◌then◌else◌, get_or}
+use Rattle.std.specs.Prelude.{ℕ, ◌≡◌, ◌==◌, Bool, not, ◌&&◌, ◌||◌, IsTrue, List, [], ◌∷◌, length, map, filter, Option, Some, None, option_map, if◌then◌else◌, get_or}
 use Rattle.std.specs.List.{list_any}
 use Rattle.hf_base.specs.declared.four.FourCc.{FourCc}
 use Rattle.hf_box.specs.Literals.{four}

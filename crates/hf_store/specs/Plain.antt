@@ -1,11 +1,12 @@
 -- Plain stores: those that are read and written so far. This is this project's own rule.
-use Rattle.std.specs.Prelude.{◌≡◌, ◌≢◌, false, [], List}
+use Rattle.std.specs.Prelude.{◌≡◌, ◌≢◌, ◌^◌, ◌<◌, false, [], List}
 use Rattle.std.specs.List.{AllByRecursion}
 use Rattle.hf_box.specs.Literals.{four}
 use Rattle.hf_store.specs.Store.{Item, ItemStore}
 
--- an item that has no mark, name, property or reference, and no type that asks for more than its bytes
+-- an item that has an id of two bytes, no mark, name, property or reference, and no type that asks for more than its bytes
 pub record IsPlainItem (i : Item) : Type 0 where
+  pub id : i.id < 256 ^ 2
   pub shown : i.hidden ≡ false
   pub name : i.name ≡ []
   pub props : i.props ≡ []

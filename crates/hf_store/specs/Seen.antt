@@ -1,6 +1,6 @@
 -- What the types of the code stand for.
 use Rattle.std.specs.Prelude.{List, [], false, map}
-use Rattle.std.specs.List.{concat}
+use Rattle.hf_pieces.specs.Bytes.{joined}
 use Rattle.hf_head.specs.Ftyp.{brands_of}
 use Rattle.hf_store.specs.Store.{Item as StatedItem, ItemStore}
 use Rattle.hf_store.specs.declared.item.Item.{Item}
@@ -9,7 +9,7 @@ use Rattle.hf_store.specs.declared.store.Store.TheInside.{Inside}
 
 -- an item that is not hidden, and has no string, property or reference
 abbrev pub item_of : Item → StatedItem
-item_of i = record { id = i.id; kind = i.kind; hidden = false; name = []; content = []; encoding = []; uri = []; bytes = concat i.body; props = []; refs = [] }
+item_of i = record { id = i.id; kind = i.kind; hidden = false; name = []; content = []; encoding = []; uri = []; bytes = joined i.body; props = []; refs = [] }
 
 abbrev pub items_of : List Item → List StatedItem
 items_of is = map item_of is

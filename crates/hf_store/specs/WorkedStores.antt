@@ -38,6 +38,18 @@ one_picture = record {
   groups = [];
 }
 
+-- the same, and another picture of one byte
+unfoldable pub two_pictures : ItemStore
+two_pictures = record {
+  brands = heic;
+  primary = 1;
+  items =
+      plain 1 "hvc1" (hex_of "aabbcc")
+      ∷ plain 2 "hvc1" (hex_of "dd")
+      ∷ [];
+  groups = [];
+}
+
 -- an item without bytes alone
 unfoldable pub one_empty_item : ItemStore
 one_empty_item = record {

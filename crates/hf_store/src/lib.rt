@@ -5,9 +5,11 @@ pub mod broken;
 mod item;
 pub mod laws;
 mod reason;
+mod removal;
 mod store;
 pub mod worked;
 
 pub use item::Item;
 pub use reason::Reason;
+pub use removal::remove_item;
 pub use store::{Parts, Store};

@@ -1,13 +1,14 @@
 //! Worked stores: that they are valid, and how they are laid in a file with offsets of four bytes.
 //! Each is the contract of a function that does nothing.
 
-ghost use Rattle.std.specs.Prelude.{◌≡◌};
+ghost use Rattle.std.specs.Prelude.{◌≡◌, length};
+ghost use Rattle.hf_store.specs.Changes.{removed};
 ghost use Rattle.hf_store.specs.Layout.{laid, own};
 ghost use Rattle.hf_store.specs.Valid.{Valid};
 ghost use Rattle.hf_store.specs.WorkedFiles.{file_of_one_picture, file_of_one_empty_item, file_of_greatest_narrow_id, file_of_least_wide_id, file_of_two_widths, file_of_turned_picture, file_of_sized_picture, file_of_identity_item, file_of_overlays, file_of_two_alternatives, file_of_picture_with_exif, file_of_picture_with_xmp, file_of_picture_with_thumbnail, file_of_every_feature, file_of_every_feature_wide};
 ghost use Rattle.hf_store.specs.WorkedPhotograph.{file_of_photograph, file_of_photograph_redacted, file_of_photograph_bare};
 ghost use Rattle.hf_store.specs.WorkedTables.{file_of_properties_127, file_of_properties_128, file_of_properties_300};
-ghost use Rattle.hf_store.specs.WorkedStores.{one_picture, one_empty_item, greatest_narrow_id, least_wide_id, two_widths, turned_picture, sized_picture, properties_127, properties_128, properties_300, identity_item, overlays, two_alternatives, picture_with_exif, picture_with_xmp, picture_with_thumbnail, every_feature, every_feature_wide, photograph, photograph_redacted, photograph_bare};
+ghost use Rattle.hf_store.specs.WorkedStores.{one_picture, two_pictures, one_empty_item, greatest_narrow_id, least_wide_id, two_widths, turned_picture, sized_picture, properties_127, properties_128, properties_300, identity_item, overlays, two_alternatives, picture_with_exif, picture_with_xmp, picture_with_thumbnail, every_feature, every_feature_wide, photograph, photograph_redacted, photograph_bare};
 
 /// Ids, and items without bytes.
 pub fn ids_are_valid()
@@ -89,4 +90,10 @@ pub fn photograph_is_laid()
     ensures whole { laid own 4 8852 photograph ≡ file_of_photograph }
     ensures redacted { laid own 4 8672 photograph_redacted ≡ file_of_photograph_redacted }
     ensures bare { laid own 4 8384 photograph_bare ≡ file_of_photograph_bare }
+{}
+
+/// Two pictures make a file of 231 bytes, and without the second one the store of one picture.
+pub fn second_picture_is_removed()
+    ensures long { length (laid own 4 231 two_pictures) ≡ 231 }
+    ensures removed { removed 2 two_pictures ≡ one_picture }
 {}

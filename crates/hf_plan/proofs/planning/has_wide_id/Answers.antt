@@ -1,4 +1,4 @@
-use Rattle.std.proofs.Common.{◌≤◌, arith, sym, ◌∙◌}
+use Rattle.std.proofs.Common.{arith, sym, ◌∙◌}
 use Rattle.hf_plan.proofs.Counts.{wide_found, wide_later, wide_end}
 use Rattle.hf_plan.proofs.planning.has_wide_id.Goals as goal
 

@@ -1,5 +1,5 @@
-use Rattle.std.proofs.Common.{◌≡◌, ◌≤◌, ◌+◌, length, arith}
-use Rattle.hf_plan.proofs.Counts.{located_some, located_none, located_end, located-le}
+use Rattle.std.proofs.Common.{arith}
+use Rattle.hf_plan.proofs.Counts.{located_some, located_none, located-le}
 use Rattle.hf_plan.proofs.planning.located_count.Goals as goal
 use Rattle.hf_plan.proofs.planning.located_count.Goals.{then-len-gt0, else-len-gt0}
 

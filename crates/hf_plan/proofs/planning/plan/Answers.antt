@@ -1,4 +1,4 @@
-use Rattle.std.proofs.Common.{◌≡◌, ◌≤◌, ◌^◌, length, arith, ap, ◌∙◌, sym, true, false}
+use Rattle.std.proofs.Common.{◌^◌, ap, false}
 use Rattle.std.specs.Prelude.{nat_le}
 use Rattle.hf_plan.proofs.Plans.{total_made, total_covers}
 use Rattle.hf_plan.proofs.planning.plan.Goals as goal

@@ -1,4 +1,4 @@
-use Rattle.std.proofs.Common.{◌≡◌, ◌≤◌, ◌+◌, length, arith, ap, ◌∙◌, sym}
+use Rattle.std.proofs.Common.{◌≡◌, arith, ◌∙◌, sym}
 use Rattle.hf_store.proofs.Removals.{body_sum-here}
 use Rattle.hf_store.specs.Layout.{own}
 use Rattle.hf_store.specs.Seen.{item_of}

@@ -1,4 +1,4 @@
-use Rattle.std.proofs.Common.{◌≡◌, ap, ◌∙◌, refl}
+use Rattle.std.proofs.Common.{ap, ◌∙◌}
 use Rattle.hf_box.specs.Written.{id_width}
 use Rattle.hf_plan.proofs.Plans.{sizes_made}
 use Rattle.hf_plan.proofs.sizes.sizes_with.Goals as goal

@@ -1,5 +1,4 @@
-use Rattle.std.proofs.Common.{◌≡◌, ◌+◌, drop, length, arith, ap, ◌∙◌}
-use Rattle.hf_store.specs.Valid.{body_sum}
+use Rattle.std.proofs.Common.{arith}
 use Rattle.hf_store.proofs.Removals.{body_sum-here, body_sum-end}
 use Rattle.hf_store.proofs.store.Store.body_sum.Goals as goal
 

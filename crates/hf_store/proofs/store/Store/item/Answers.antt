@@ -1,4 +1,4 @@
-use Rattle.std.proofs.Common.{◌≡◌, sym, ◌∙◌}
+use Rattle.std.proofs.Common.{sym, ◌∙◌}
 use Rattle.hf_store.proofs.Spots.{id_here, in_at, some_is}
 use Rattle.hf_store.proofs.store.Store.item.Goals as goal
 

@@ -1,7 +1,6 @@
-use Rattle.std.proofs.Common.{◌≡◌, ◌<◌, ◌≤◌, ℕ, arith}
-use Rattle.std.specs.Prelude.{slice_get, Some}
+use Rattle.std.proofs.Common.{arith}
 use Rattle.hf_store.specs.Store.{ids_of}
-use Rattle.hf_store.proofs.Spots.{get_map, at_in, id_here, rises_later}
+use Rattle.hf_store.proofs.Spots.{at_in, id_here, rises_later}
 use Rattle.hf_store.proofs.store.Store.position.Goals as goal
 
 pub loop-low-preserved-then-found-id-2 : goal.loop-low-preserved-then-found-id-2

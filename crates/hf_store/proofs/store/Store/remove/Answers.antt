@@ -1,10 +1,8 @@
-use Rattle.std.proofs.Common.{◌≡◌, ◌<◌, length, sym, ap, subst, ◌∙◌}
-use Rattle.hf_store.specs.Store.{ItemStore}
+use Rattle.std.proofs.Common.{sym, subst}
 use Rattle.hf_store.specs.Valid.{Valid}
 use Rattle.hf_store.specs.Plain.{IsPlain}
-use Rattle.hf_store.specs.Changes.{id_at, removed}
-use Rattle.hf_store.specs.Seen.{store_of}
-use Rattle.hf_store.proofs.Removals.{steps_keep_plain, plain_removed}
+use Rattle.hf_store.specs.Changes.{id_at}
+use Rattle.hf_store.proofs.Removals.{plain_removed}
 use Rattle.hf_store.proofs.Places.{taken_out}
 use Rattle.hf_store.proofs.store.Store.remove.Goals as goal
 
