@@ -1,0 +1,5 @@
+pub mod Chains
+pub mod Files
+pub mod Infos
+pub mod Made
+pub mod TestStores

@@ -1,0 +1,43 @@
+-- The store of the tests.
+use Rattle.std.proofs.Common.{◌≡◌, ℕ, List, [], ◌∷◌, refl, sym, ap, ◌∙◌, arith}
+use Rattle.hf_box.specs.Literals.{four, hex_of}
+use Rattle.hf_pieces.specs.Bytes.{joined}
+use Rattle.hf_store.specs.Store.{Item as Stated, ItemStore}
+use Rattle.hf_store.specs.WorkedStores.{heic, plain, two_pictures}
+use Rattle.hf_store.specs.Derived.{input_pairs}
+use Rattle.hf_store.specs.Valid.{Valid}
+use Rattle.hf_store.specs.Plain.{IsPlain}
+use Rattle.hf_store.specs.Seen.{items_of}
+use Rattle.hf_store.specs.declared.item.Item.{Item}
+use Rattle.hf_store.proofs.Ends.{ends}
+use Rattle.hf_store.proofs.Finds.{found}
+use Rattle.hf_store.proofs.ValidStores.{layout}
+
+pub valid_two_pictures : Valid two_pictures
+unfolding layout two_pictures
+valid_two_pictures =
+    record {
+      brands = search arith;
+      ids_rise = search arith;
+      primary = search found;
+      items = search (found, arith);
+      groups_rise = search arith;
+      groups = search (found, arith);
+      ends = ends (λ id. 0) (input_pairs two_pictures.items) refl;
+      count = omega arith;
+      kinds = omega arith;
+      body = omega arith;
+      meta = omega arith;
+    }
+
+pub plain_two_pictures : IsPlain two_pictures
+unfolding two_pictures
+plain_two_pictures = search arith
+
+-- the parts that the test has are this store
+pub two_made : (items : List Item) (first second : List (List ℕ)) → items ≡ record { id = 1; kind = four "hvc1"; body = first } ∷ record { id = 2; kind = four "hvc1"; body = second } ∷ []
+    → joined first ≡ hex_of "aabbcc" → joined second ≡ hex_of "dd" → two_pictures ≡ record { brands = heic; primary = 1; items = items_of items; groups = [] }
+unfolding two_pictures
+two_made items first second e f g =
+    let made : List Stated → ItemStore = λ is. record { brands = heic; primary = 1; items = is; groups = [] } in
+    sym (ap (λ (is : List Item). made (items_of is)) e ∙ ap (λ (b : List ℕ). made (plain 1 "hvc1" b ∷ plain 2 "hvc1" (joined second) ∷ [])) f ∙ ap (λ (b : List ℕ). made (plain 1 "hvc1" (hex_of "aabbcc") ∷ plain 2 "hvc1" b ∷ [])) g)
