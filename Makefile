@@ -18,3 +18,4 @@ install: all
 
 bench: all
 	bench/boxes
+	bench/edit

@@ -1,13 +1,12 @@
 -- What each answer of a run claims.
-use Rattle.std.specs.Prelude.{◌≡◌, ◌⊎◌, ℕ, List, Option, Some, None, false}
-use Rattle.hf_desk.specs.Outside.{Outside}
-use Rattle.hf_desk.specs.Calls.{Rose, Said, SaidFront}
+use Rattle.std.specs.Prelude.{◌≡◌, ◌⊎◌, ℕ, List, Option, Some, None, Result, Ok, Err, IfSome, false}
+use Rattle.hf_desk.specs.Outside.{Outside, Files, file_of}
+use Rattle.hf_desk.specs.Calls.{IfTold, Rose, Said, SaidFront, LacksFile}
 use Rattle.hf_desk.specs.Making.{IsMade, IsUnmade, IsMadeInPart}
-use Rattle.hf_desk.specs.declared.read.ReadStop.{ReadStop}
-use Rattle.hf_desk.specs.declared.read.ReadStop.TheVariants.{TooLong as Long, Fault, NoMemory as Memory}
 use Rattle.hf_app.specs.declared.outcome.Outcome.{Outcome}
-use Rattle.hf_app.specs.declared.outcome.Outcome.TheVariants.{Done, Usage, Unfit, TooLong, ReadFault, WriteFault, NoMemory}
-use Rattle.hf_app.specs.Due.{Due}
+use Rattle.hf_app.specs.declared.outcome.Outcome.TheVariants.{Done, Usage, Unfit, Refused, TooLong, ReadFault, WriteFault, NoMemory}
+use Rattle.hf_app.specs.Words.{Command}
+use Rattle.hf_app.specs.Due.{Due, IsDue, IsDueOf, IsDefined, input_of, out_of}
 
 -- the file that is due was made, or nothing was
 abbrev pub MadeDue : Option (List ℕ × List ℕ) → Outside → Outside → Type 0
@@ -19,16 +18,18 @@ abbrev pub MadeDueInPart : Option (List ℕ × List ℕ) → Outside → Outside
 MadeDueInPart None old new = IsUnmade old new
 MadeDueInPart (Some file) old new = IsUnmade old new ⊎ IsMadeInPart old file.0 file.1 new
 
--- where something is due, it is the answer, unless memory was refused or the desk failed;
+-- something is due, it has this outcome, and P holds of it
+abbrev pub HasDue : (Due → Type 0) → Outcome → (Due → Type 0) → Type 0
+HasDue Is outcome P = (d : Due) × Is d × (d.outcome ≡ outcome) × P d
+
+-- the answer is due, unless memory was refused or a read failed;
 -- Done made and said all that is due, and WriteFault, which comes only where Done is due, some front of it
-abbrev pub Answers : Due → Outcome → Outside → Outside → Type 0
-Answers d Done old new = (d.outcome ≡ Done) × MadeDue d.makes old new × Said old d.says new
-Answers d WriteFault old new = (d.outcome ≡ Done) × MadeDueInPart d.makes old new × SaidFront old d.says new
-Answers d ReadFault old new = Unit {0}
-Answers d NoMemory old new = Unit {0}
-Answers d (Usage at) old new = d.outcome ≡ Usage at
-Answers d (Unfit source why) old new = d.outcome ≡ Unfit source why
-Answers d (TooLong source) old new = d.outcome ≡ TooLong source
+abbrev pub Answers : (Due → Type 0) → Outcome → Outside → Outside → Type 0
+Answers Is Done old new = HasDue Is Done (λ d. MadeDue d.makes old new × Said old d.says new)
+Answers Is WriteFault old new = HasDue Is Done (λ d. MadeDueInPart d.makes old new × SaidFront old d.says new)
+Answers Is ReadFault old new = Unit {0}
+Answers Is NoMemory old new = Unit {0}
+Answers Is outcome old new = HasDue Is outcome (λ d. Unit {0})
 
 -- with every answer other than Done and WriteFault nothing was made and nothing was said
 abbrev pub IsQuiet : Outcome → Outside → Outside → Type 0
@@ -42,17 +43,34 @@ HasCause ReadFault old new = Rose old.read_faults new.read_faults
 HasCause WriteFault old new = Rose old.write_faults new.write_faults
 HasCause _ old new = Unit {0}
 
--- it is this outcome, or memory was refused
-abbrev pub IsOrNoMemory : Outcome → Outcome → Type 0
-IsOrNoMemory result outcome = (result ≡ outcome) ⊎ (result ≡ NoMemory)
+-- the answer is due, or memory was refused
+abbrev pub IsDueOrNoMemory : (Due → Type 0) → Outcome → Type 0
+IsDueOrNoMemory Is outcome = (outcome ≡ NoMemory) ⊎ HasDue Is outcome (λ d. Unit {0})
 
 -- what never changes
 pub record Stays (old new : Outside) : Type 0 where
   pub files : new.files ≡ old.files
   pub steady : new.steady ≡ old.steady
 
--- the answer where the file of this source was not read whole
-abbrev pub outcome_of_stop : ℕ → ReadStop → Outcome
-outcome_of_stop source Long = TooLong source
-outcome_of_stop source Fault = ReadFault
-outcome_of_stop source Memory = NoMemory
+-- where the files are told and have this one, P holds of its bytes
+abbrev pub ForFile : Outside → List ℕ → (List ℕ → Type 0) → Type 0
+ForFile old name P = (files : Files) → old.files ≡ Some files → (file : List ℕ) → file_of files name ≡ Some file → P file
+
+-- the answers that say something of the input, which the others leave open: a read failed, or memory was refused
+abbrev pub IfTells : Outcome → Type 0 → Type 0
+IfTells ReadFault P = Unit {0}
+IfTells NoMemory P = Unit {0}
+IfTells outcome P = P
+
+-- with such an answer the input is there, where the files are told, and the answer is due of it
+abbrev pub Ends : Command → Outcome → Outside → Outside → Type 0
+Ends command outcome old new = IfTells outcome (IfTold old (input_of command) (λ file. Answers (IsDueOf command file) outcome old new))
+
+-- where something is due, P holds of being that
+abbrev pub ForDue : Result Command ℕ → Outside → ((Due → Type 0) → Type 0) → Type 0
+ForDue read old P = IsDefined read old.files → P (IsDue read old.files)
+
+-- the name that a command makes is free
+abbrev pub OutIsFree : Result Command ℕ → Outside → Type 0
+OutIsFree (Err at) old = Unit {0}
+OutIsFree (Ok command) old = IfSome (out_of command) (λ out. LacksFile old out)

@@ -1,14 +1,18 @@
 -- What an undisturbed run answers, makes and says.
-use Rattle.std.specs.Prelude.{ℕ, List, [], length, Option, Some, None, Result, Ok, Err, if◌then◌else◌, nat_lt, option_map}
+use Rattle.std.specs.Prelude.{◌≡◌, ◌⊎◌, ◌<◌, ◌≤◌, ℕ, List, [], length, Option, Some, None, IsSome, Result, Ok, Err, if◌then◌else◌, nat_lt}
 use Rattle.hf_base.specs.declared.fault.ReadRefusal.{ReadRefusal}
 use Rattle.hf_base.specs.declared.limits.TheConstants.{FILE}
 use Rattle.hf_box.specs.declared.view.BoxRow.{BoxRow}
 use Rattle.hf_box.specs.Walk.{walk_at}
 use Rattle.hf_desk.specs.Outside.{Files, file_of}
+use Rattle.hf_store.specs.Changes.{Edit}
+use Rattle.hf_store.specs.declared.reason.Reason.{Reason}
 use Rattle.hf_app.specs.declared.outcome.Outcome.{Outcome}
-use Rattle.hf_app.specs.declared.outcome.Outcome.TheVariants.{Done, Usage, Unfit, TooLong}
+use Rattle.hf_app.specs.declared.outcome.Outcome.TheVariants.{Done, Usage, Unfit, Refused, TooLong}
+use Rattle.hf_app.specs.Denotes.{fault_of}
+use Rattle.hf_app.specs.Edits.{IsEdited, IsRefused}
 use Rattle.hf_app.specs.Texts.{rows_text}
-use Rattle.hf_app.specs.Words.{Command, Boxes, command_of, usage_at}
+use Rattle.hf_app.specs.Words.{Command, Boxes, EditFile}
 
 pub record Due : Type 0 where
   pub outcome : Outcome
@@ -25,18 +29,41 @@ abbrev pub due_of_rows : Result (List BoxRow) ReadRefusal → Due
 due_of_rows (Ok rows) = record { outcome = Done; makes = None; says = rows_text rows }
 due_of_rows (Err why) = answered (Unfit 0 why)
 
--- a file that is read has at most FILE bytes
-abbrev pub due_of_file : List ℕ → Due
-due_of_file file = if nat_lt FILE (length file) then answered (TooLong 0) else due_of_rows (walk_at file)
+-- what is due of a file that is edited: its fault, the first refused edit, or the canonical file after all edits
+abbrev pub IsDueOfEdits : List ℕ → List ℕ → List Edit → Due → Type 0
+IsDueOfEdits file out edits d =
+    ((fault : ReadRefusal) × (fault_of file ≡ Some fault) × (d ≡ answered (Unfit 0 fault)))
+    ⊎ ((n : ℕ) × (reason : Reason) × IsRefused file edits n reason × (d ≡ answered (Refused n reason)))
+    ⊎ ((bytes : List ℕ) × IsEdited file edits bytes × (d ≡ record { outcome = Done; makes = Some (out, bytes); says = [] }))
 
-abbrev pub due_of_command : Command → Option Files → Option Due
-due_of_command command None = None
-due_of_command (Boxes input) (Some files) = option_map due_of_file (file_of files input)
+-- what is due where the input of a command is this file, of at most FILE bytes
+abbrev pub IsDueOfFile : Command → List ℕ → Due → Type 0
+IsDueOfFile (Boxes input) file d = d ≡ due_of_rows (walk_at file)
+IsDueOfFile (EditFile input out edits) file d = IsDueOfEdits file out edits d
 
-abbrev pub due_of : Option Command → List (List ℕ) → Option Files → Option Due
-due_of None words files = Some (answered (Usage (usage_at words)))
-due_of (Some command) words files = due_of_command command files
+abbrev pub IsDueOf : Command → List ℕ → Due → Type 0
+IsDueOf command file d =
+    ((FILE < length file) × (d ≡ answered (TooLong 0)))
+    ⊎ ((length file ≤ FILE) × IsDueOfFile command file d)
 
--- what is due, where no command reads, or the files are told and have the one that the command reads
-abbrev pub due : List (List ℕ) → Option Files → Option Due
-due words files = due_of (command_of words) words files
+-- the name of the file that a command reads
+abbrev pub input_of : Command → List ℕ
+input_of (Boxes input) = input
+input_of (EditFile input out edits) = input
+
+-- the name of the file that a command makes
+abbrev pub out_of : Command → Option (List ℕ)
+out_of (Boxes input) = None
+out_of (EditFile input out edits) = Some out
+
+-- something is due: the words are no command, or the files are told and have the one that the command reads
+abbrev pub IsDefined : Result Command ℕ → Option Files → Type 0
+IsDefined (Err at) files = Unit {0}
+IsDefined (Ok command) None = ⊥
+IsDefined (Ok command) (Some files) = IsSome (file_of files (input_of command))
+
+-- and this is it
+abbrev pub IsDue : Result Command ℕ → Option Files → Due → Type 0
+IsDue (Err at) files d = d ≡ answered (Usage at)
+IsDue (Ok command) None d = ⊥
+IsDue (Ok command) (Some files) d = (file : List ℕ) × (file_of files (input_of command) ≡ Some file) × IsDueOf command file d

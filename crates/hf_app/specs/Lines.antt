@@ -5,7 +5,9 @@ use Rattle.hf_base.specs.declared.fault.ReadRefusal.{ReadRefusal}
 use Rattle.hf_base.specs.declared.fault.ReadRefusal.TheVariants.{Short, BadSize, OpenSize, TooManyBoxes, NoFtyp, NotMif1, Movie, NoMeta, Double, ProtectionBox, Xml, Missing, BadRecord, BadVersion, NotPicture, ZeroId, Protected, DoubleItem, NoPrimary, BadWidth, TooLarge, DoubleLocation, DanglingNeed, DoubleAssoc, BadProperty, DoubleGroup, External, BadMethod, ZeroLength, NoIdat, BadIndex, LocCycle, OutOfFile, OutOfIdat, TooScattered, OutOfItem, TooManyBytes, BadDerived, DeriveCycle, TooManyItems, TooManyLinks, MetaTooLong, Later}
 use Rattle.hf_app.specs.Texts.{type_text}
 use Rattle.hf_app.specs.declared.outcome.Outcome.{Outcome}
-use Rattle.hf_app.specs.declared.outcome.Outcome.TheVariants.{Done, Usage, Unfit, TooLong, ReadFault, WriteFault, NoMemory}
+use Rattle.hf_app.specs.declared.outcome.Outcome.TheVariants.{Done, Usage, Unfit, Refused, TooLong, ReadFault, WriteFault, NoMemory}
+use Rattle.hf_store.specs.declared.reason.Reason.{Reason}
+use Rattle.hf_store.specs.declared.reason.Reason.TheVariants.{NoItem, IsPrimary, Needed, NotImage, IsHidden, IsMinor, DonorDerived, NoSize, OutsidePicture, BadTurn, BadAxis, NoProperty, IsEssential, PropsFull, KindsFull, ItemsFull, IdsFull, BodyFull, MetaFull}
 
 -- a number, after a space
 abbrev pub number_field : ℕ → List ℕ
@@ -61,11 +63,34 @@ refusal_text (TooManyLinks id) = codes "TooManyLinks" ++ number_field id
 refusal_text (MetaTooLong size) = codes "MetaTooLong" ++ number_field size
 refusal_text (Later kind at) = codes "Later" ++ type_field kind ++ number_field at
 
+-- the name of a reason against an edit, then its field
+abbrev pub reason_text : Reason → List ℕ
+reason_text NoItem = codes "NoItem"
+reason_text IsPrimary = codes "IsPrimary"
+reason_text (Needed by) = codes "Needed" ++ number_field by
+reason_text NotImage = codes "NotImage"
+reason_text IsHidden = codes "IsHidden"
+reason_text IsMinor = codes "IsMinor"
+reason_text DonorDerived = codes "DonorDerived"
+reason_text NoSize = codes "NoSize"
+reason_text OutsidePicture = codes "OutsidePicture"
+reason_text BadTurn = codes "BadTurn"
+reason_text BadAxis = codes "BadAxis"
+reason_text NoProperty = codes "NoProperty"
+reason_text IsEssential = codes "IsEssential"
+reason_text PropsFull = codes "PropsFull"
+reason_text KindsFull = codes "KindsFull"
+reason_text ItemsFull = codes "ItemsFull"
+reason_text IdsFull = codes "IdsFull"
+reason_text BodyFull = codes "BodyFull"
+reason_text MetaFull = codes "MetaFull"
+
 -- the line of an outcome on standard error; none for Done
 abbrev pub line_text : Outcome → List ℕ
 line_text Done = []
 line_text (Usage at) = codes "heif: no command at word" ++ number_field at ++ codes "\n"
 line_text (Unfit source why) = codes "heif: source" ++ number_field source ++ codes ": " ++ refusal_text why ++ codes "\n"
+line_text (Refused edit why) = codes "heif: edit" ++ number_field edit ++ codes ": " ++ reason_text why ++ codes "\n"
 line_text (TooLong source) = codes "heif: source" ++ number_field source ++ codes " is too long\n"
 line_text ReadFault = codes "heif: reading failed\n"
 line_text WriteFault = codes "heif: writing failed\n"
@@ -75,6 +100,7 @@ abbrev pub status_of : Outcome → ℕ
 status_of Done = 0
 status_of (Usage at) = 2
 status_of (Unfit source why) = 3
+status_of (Refused edit why) = 4
 status_of (TooLong source) = 6
 status_of ReadFault = 7
 status_of WriteFault = 8

@@ -5,9 +5,10 @@ ghost use Rattle.hf_app.specs.Lines.{line_text, number_field, type_field, refusa
 ghost use Rattle.hf_app.specs.Parts.{parts_text};
 
 use crate::outcome::Outcome;
-use crate::parts::{Parts, parts_of};
+use crate::parts::{Parts, parts_of, parts_of_reason};
 use crate::text::type_text;
 use hf_base::{FourCc, NoMemory, ReadRefusal};
+use hf_store::Reason;
 use itoa::Buffer;
 use std::alloc::Global;
 
@@ -63,6 +64,17 @@ fn unfit_line(alloc: Global, source: u32, why: &ReadRefusal) -> Result<String, N
     Ok(line)
 }
 
+fn refused_line(alloc: Global, edit: u32, why: &Reason) -> Result<String, NoMemory>
+    ensures { IfOk result (λ line. string_bytes line ≡ line_text (Outcome.Refused edit why.now)) }
+{
+    let mut line = String::from_str(alloc, "heif: edit")?;
+    push_number(&mut line, u64::from(edit))?;
+    line.push_str(": ")?;
+    push_parts(&mut line, &parts_of_reason(why))?;
+    line.push_str("\n")?;
+    Ok(line)
+}
+
 fn too_long_line(alloc: Global, source: u32) -> Result<String, NoMemory>
     ensures { IfOk result (λ line. string_bytes line ≡ line_text (Outcome.TooLong source)) }
 {
@@ -79,6 +91,7 @@ pub fn line_of(alloc: Global, outcome: &Outcome) -> Result<String, NoMemory>
     let fixed = match outcome {
         Outcome::Usage { at } => return usage_line(alloc, *at),
         Outcome::Unfit { source, why } => return unfit_line(alloc, *source, why),
+        Outcome::Refused { edit, why } => return refused_line(alloc, *edit, why),
         Outcome::TooLong { source } => return too_long_line(alloc, *source),
         Outcome::Done => "",
         Outcome::ReadFault => "heif: reading failed\n",

@@ -4,6 +4,7 @@ ghost use Rattle.std.specs.Prelude.{◌≡◌};
 ghost use Rattle.hf_app.specs.Lines.{status_of};
 
 use hf_base::ReadRefusal;
+use hf_store::Reason;
 
 /// How a run ends. The outcomes, their numbers and their lines are this project's own.
 #[derive(Clone, Copy, Debug, PartialEq, Eq)]
@@ -15,11 +16,13 @@ pub enum Outcome {
     Usage { at: usize },
     /// The file of this source is refused. Source 0 is the input.
     Unfit { source: u32, why: ReadRefusal },
+    /// The edit with this number, from 1, is refused, and those before it are accepted.
+    Refused { edit: u32, why: Reason },
     /// The file of this source has more than `FILE` bytes.
     TooLong { source: u32 },
     /// A read failed, also for a name that is not there.
     ReadFault,
-    /// A write failed; what was said until then is the front of what was to be said.
+    /// A write failed; what was said or made until then is the front of what was to be.
     WriteFault,
     /// Memory was refused.
     NoMemory,
@@ -33,6 +36,7 @@ pub fn status(outcome: &Outcome) -> u8
         Outcome::Done => 0,
         Outcome::Usage { .. } => 2,
         Outcome::Unfit { .. } => 3,
+        Outcome::Refused { .. } => 4,
         Outcome::TooLong { .. } => 6,
         Outcome::ReadFault => 7,
         Outcome::WriteFault => 8,

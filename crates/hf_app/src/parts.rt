@@ -1,10 +1,11 @@
-//! What is printed of a refusal.
+//! What is printed of a refusal, and of a reason against an edit.
 
 ghost use Rattle.std.specs.Prelude.{◌≡◌, ◌++◌, codes, Some, None};
-ghost use Rattle.hf_app.specs.Lines.{number_field, type_field, refusal_text};
+ghost use Rattle.hf_app.specs.Lines.{number_field, type_field, reason_text, refusal_text};
 ghost use Rattle.hf_app.specs.Parts.{parts_text};
 
 use hf_base::{FourCc, ReadRefusal};
+use hf_store::Reason;
 
 /// A name, and its fields in order.
 #[derive(Clone, Copy)]
@@ -110,5 +111,32 @@ pub fn parts_of(why: &ReadRefusal) -> Parts
         ReadRefusal::TooManyLinks { id } => Parts::of_item("TooManyLinks", id),
         ReadRefusal::MetaTooLong { size } => Parts::of_number("MetaTooLong", size),
         ReadRefusal::Later { kind, at } => Parts::of_box("Later", kind, at),
+    }
+}
+
+/// The name of a reason and its field.
+pub fn parts_of_reason(why: &Reason) -> Parts
+    ensures { parts_text result ≡ reason_text why.now }
+{
+    match *why {
+        Reason::NoItem => Parts::bare("NoItem"),
+        Reason::IsPrimary => Parts::bare("IsPrimary"),
+        Reason::Needed { by } => Parts::of_item("Needed", by),
+        Reason::NotImage => Parts::bare("NotImage"),
+        Reason::IsHidden => Parts::bare("IsHidden"),
+        Reason::IsMinor => Parts::bare("IsMinor"),
+        Reason::DonorDerived => Parts::bare("DonorDerived"),
+        Reason::NoSize => Parts::bare("NoSize"),
+        Reason::OutsidePicture => Parts::bare("OutsidePicture"),
+        Reason::BadTurn => Parts::bare("BadTurn"),
+        Reason::BadAxis => Parts::bare("BadAxis"),
+        Reason::NoProperty => Parts::bare("NoProperty"),
+        Reason::IsEssential => Parts::bare("IsEssential"),
+        Reason::PropsFull => Parts::bare("PropsFull"),
+        Reason::KindsFull => Parts::bare("KindsFull"),
+        Reason::ItemsFull => Parts::bare("ItemsFull"),
+        Reason::IdsFull => Parts::bare("IdsFull"),
+        Reason::BodyFull => Parts::bare("BodyFull"),
+        Reason::MetaFull => Parts::bare("MetaFull"),
     }
 }

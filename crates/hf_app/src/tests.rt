@@ -5,7 +5,8 @@ use super::*;
 use hf_base::kinds::META;
 use hf_base::{FourCc, ReadRefusal};
 use hf_box::BoxRow;
-use hf_desk::MemoryDesk;
+use hf_desk::{CountingDesk, MemoryDesk};
+use hf_store::Reason;
 use std::alloc::Global;
 use std::test::Fail;
 
@@ -19,6 +20,19 @@ const FILE: [u8; 193] = *b"\0\0\0\x18ftypheic\0\0\0\0mif1heic\
     \0\0\0\x20iprp\0\0\0\x08ipco\0\0\0\x10ipma\0\0\0\0\0\0\0\0\
     \0\0\0\x20iloc\x01\0\0\0\x44\0\0\x01\0\x01\0\0\0\0\0\x01\0\0\0\xbe\0\0\0\x03\
     \0\0\0\x0bmdat\xaa\xbb\xcc";
+
+/// The same file with an item 2 of one byte.
+const TWO: [u8; 231] = *b"\0\0\0\x18ftypheic\0\0\0\0mif1heic\
+    \0\0\0\xc3meta\0\0\0\0\
+    \0\0\0\x21hdlr\0\0\0\0\0\0\0\0pict\0\0\0\0\0\0\0\0\0\0\0\0\0\
+    \0\0\0\x0epitm\0\0\0\0\0\x01\
+    \0\0\0\x38iinf\0\0\0\0\0\x02\
+    \0\0\0\x15infe\x02\0\0\0\0\x01\0\0hvc1\0\
+    \0\0\0\x15infe\x02\0\0\0\0\x02\0\0hvc1\0\
+    \0\0\0\x20iprp\0\0\0\x08ipco\0\0\0\x10ipma\0\0\0\0\0\0\0\0\
+    \0\0\0\x30iloc\x01\0\0\0\x44\0\0\x02\0\x01\0\0\0\0\0\x01\0\0\0\xe3\0\0\0\x03\
+    \0\x02\0\0\0\0\0\x01\0\0\0\xe6\0\0\0\x01\
+    \0\0\0\x0cmdat\xaa\xbb\xcc\xdd";
 
 const ROWS: &str =
     "0 ftyp 24\n24 meta 158\n  36 hdlr 33\n  69 pitm 14\n  83 iinf 35\n  118 iprp 32\n  150 iloc 32\n182 mdat 11\n";
@@ -67,6 +81,195 @@ fn words_end_in_their_outcomes(rt: HostRuntime) -> Result<(), Fail> {
         assert_eq!(rt; run(rt.alloc(), &words, &mut desk), *outcome);
         assert_eq!(rt; desk.said(), text.as_bytes());
     }
+    Ok(())
+}
+
+/// The place of usage, where the words are no command.
+fn usage_of(read: Result<Command, WordsFault>) -> Option<usize> {
+    match read {
+        Err(WordsFault::Usage { at }) => Some(at),
+        _ => None,
+    }
+}
+
+#[test]
+fn words_that_are_no_command_have_a_place(rt: HostRuntime) -> Result<(), Fail> {
+    let cases: [(&[&str], usize); 12] = [
+        (&[], 0),
+        (&["list"], 0),
+        (&["boxes"], 1),
+        (&["boxes", "a", "b"], 2),
+        (&["edit"], 1),
+        (&["edit", "a"], 2),
+        (&["edit", "a", "b", "remove"], 4),
+        (&["edit", "a", "b", "remove", "01"], 4),
+        (&["edit", "a", "b", "remove", "+1"], 4),
+        (&["edit", "a", "b", "remove", "4294967296"], 4),
+        (&["edit", "a", "b", "x", "1"], 3),
+        (&["edit", "a", "b", "remove", "1", "remove", "x"], 6),
+    ];
+    for (words, at) in &cases {
+        let words = words_of(rt.alloc(), words)?;
+        assert_eq!(rt; usage_of(read_words(rt.alloc(), &words)), Some(*at));
+    }
+    Ok(())
+}
+
+#[test]
+fn edits_are_read_in_order(rt: HostRuntime) -> Result<(), Fail> {
+    let words = words_of(
+        rt.alloc(),
+        &["edit", "a", "b", "remove", "4294967295", "remove", "0"],
+    )?;
+    let Ok(Command::Edit { input, out, edits }) = read_words(rt.alloc(), &words) else {
+        return Err(Fail::from("the words are a command"));
+    };
+    assert_eq!(rt; (input, out), (1, 2));
+    let expected = [
+        EditWord::Remove { id: u32::MAX },
+        EditWord::Remove { id: 0 },
+    ];
+    assert_eq!(rt; edits.as_slice(), expected.as_slice());
+    Ok(())
+}
+
+#[test]
+fn one_edit_too_many_is_told(rt: HostRuntime) -> Result<(), Fail> {
+    let mut words = words_of(rt.alloc(), &["edit", "a", "b"])?;
+    for _ in 0..256 {
+        words.push(String::from_str(rt.alloc(), "remove")?)?;
+        words.push(String::from_str(rt.alloc(), "7")?)?;
+    }
+    let Ok(Command::Edit { edits, .. }) = read_words(rt.alloc(), &words) else {
+        return Err(Fail::from("256 edits are a command"));
+    };
+    assert_eq!(rt; edits.len(), 256);
+    words.push(String::from_str(rt.alloc(), "remove")?)?;
+    words.push(String::from_str(rt.alloc(), "7")?)?;
+    assert_eq!(rt; usage_of(read_words(rt.alloc(), &words)), Some(515));
+    Ok(())
+}
+
+/// Files that are edited: one with a `free` behind it, one whose extent passes the end, and one with
+/// an empty `idat` as the last box of `meta`.
+fn edited_files(alloc: Global) -> Result<MemoryDesk, Fail>
+    ensures { IfOk result (λ desk. (memory_outside desk).creating ≡ false) }
+{
+    let mut desk = files(alloc)?;
+    desk.add("two", &TWO)?;
+    let mut with_free = Vec::from_slice(alloc, &FILE)?;
+    with_free.extend_from_slice(b"\0\0\0\x08free")?;
+    desk.add("free", &with_free)?;
+    let mut long = FILE;
+    long[181] = 4;
+    desk.add("long", &long)?;
+    let mut with_idat = Vec::from_slice(alloc, &FILE[..24])?;
+    with_idat.extend_from_slice(b"\0\0\0\xa6")?;
+    with_idat.extend_from_slice(&FILE[28..182])?;
+    with_idat.extend_from_slice(b"\0\0\0\x08idat")?;
+    with_idat.extend_from_slice(&FILE[182..])?;
+    desk.add("idat", &with_idat)?;
+    Ok(desk)
+}
+
+#[test]
+fn edits_end_in_their_outcomes(rt: HostRuntime) -> Result<(), Fail> {
+    let later = ReadRefusal::Later {
+        kind: FourCc(*b"idat"),
+        at: 182,
+    };
+    let bad_size = ReadRefusal::BadSize { at: 182 };
+    let cases: [(&[&str], Outcome); 9] = [
+        (
+            &["edit", "two", "b", "remove", "1"],
+            Outcome::Refused {
+                edit: 1,
+                why: Reason::IsPrimary,
+            },
+        ),
+        (
+            &["edit", "two", "b", "remove", "2", "remove", "2"],
+            Outcome::Refused {
+                edit: 2,
+                why: Reason::NoItem,
+            },
+        ),
+        (
+            &["edit", "idat", "b"],
+            Outcome::Unfit {
+                source: 0,
+                why: later,
+            },
+        ),
+        (
+            &["edit", "long", "b"],
+            Outcome::Unfit {
+                source: 0,
+                why: ReadRefusal::OutOfFile { id: 1 },
+            },
+        ),
+        (
+            &["edit", "cut", "b"],
+            Outcome::Unfit {
+                source: 0,
+                why: bad_size,
+            },
+        ),
+        (
+            &["edit", "empty", "b"],
+            Outcome::Unfit {
+                source: 0,
+                why: ReadRefusal::NoFtyp,
+            },
+        ),
+        (&["edit", "file", "file"], Outcome::WriteFault),
+        (&["edit", "missing", "b"], Outcome::ReadFault),
+        (&["edit", "file"], Outcome::Usage { at: 2 }),
+    ];
+    for (words, outcome) in &cases {
+        let mut desk = edited_files(rt.alloc())?;
+        let words = words_of(rt.alloc(), words)?;
+        assert_eq!(rt; run(rt.alloc(), &words, &mut desk), *outcome);
+        assert!(rt; desk.made().is_none());
+    }
+    Ok(())
+}
+
+#[test]
+fn the_one_canonical_file_is_made(rt: HostRuntime) -> Result<(), Fail> {
+    let cases: [&[&str]; 3] = [
+        &["edit", "file", "b"],
+        &["edit", "free", "b"],
+        &["edit", "two", "b", "remove", "2"],
+    ];
+    for words in &cases {
+        let mut desk = edited_files(rt.alloc())?;
+        let words = words_of(rt.alloc(), words)?;
+        assert_eq!(rt; run(rt.alloc(), &words, &mut desk), Outcome::Done);
+        assert_eq!(rt; desk.made(), Some(FILE.as_slice()));
+    }
+    Ok(())
+}
+
+#[test]
+fn a_made_file_breaks_off_where_a_write_fails(rt: HostRuntime) -> Result<(), Fail> {
+    let words = words_of(rt.alloc(), &["edit", "file", "b"])?;
+    let mut desk = files(rt.alloc())?;
+    desk.take_at_most(10);
+    // The file is read by the first two calls, and the third makes the other one.
+    desk.fail(6)?;
+    assert_eq!(rt; run(rt.alloc(), &words, &mut desk), Outcome::WriteFault);
+    assert_eq!(rt; desk.made(), Some(&FILE[..20]));
+    Ok(())
+}
+
+#[test]
+fn a_made_file_is_counted(rt: HostRuntime) -> Result<(), Fail> {
+    let words = words_of(rt.alloc(), &["edit", "two", "b", "remove", "2"])?;
+    let mut desk = CountingDesk::new();
+    desk.add("two", &TWO);
+    assert_eq!(rt; run(rt.alloc(), &words, &mut desk), Outcome::Done);
+    assert_eq!(rt; desk.made_len(), 193);
     Ok(())
 }
 

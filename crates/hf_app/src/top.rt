@@ -1,26 +1,17 @@
 //! The top call.
 
-ghost use Rattle.std.specs.Prelude.{◌≡◌, ◌↔◌, ℕ, List, true, false, Some, None, IfSome, map, string_bytes};
+ghost use Rattle.std.specs.Prelude.{◌≡◌, ◌↔◌, ℕ, List, true, false, Ok, Err, map, string_bytes};
 ghost use Rattle.hf_desk.specs.Outside.{Outside};
 ghost use Rattle.hf_desk.specs.Calls.{Rose};
-ghost use Rattle.hf_app.specs.Words.{command_of, usage_at};
-ghost use Rattle.hf_app.specs.Due.{due};
-ghost use Rattle.hf_app.specs.Answers.{Answers, IsQuiet, HasCause, IsOrNoMemory, Stays};
+ghost use Rattle.hf_app.specs.Words.{Command as Words, command_read};
+ghost use Rattle.hf_app.specs.Answers.{Answers, Ends, ForDue, IsQuiet, HasCause, IsDueOrNoMemory, OutIsFree, Stays};
 
 use crate::boxes::say_boxes;
+use crate::edit::edit_file;
 use crate::outcome::Outcome;
+use crate::words::{Command, WordsFault, read_words};
 use hf_desk::Desk;
 use std::alloc::Global;
-
-/// The place of the first word that no command has there, or the number of words.
-fn place_of_fault(words: &[String]) -> usize
-    ensures { result ≡ usage_at (map string_bytes words.now) }
-{
-    match words {
-        [word, ..] if word.as_str() == "boxes" => words.len().min(2),
-        _ => 0,
-    }
-}
 
 /// Does all that the program does: `words` are those of the command line without the program's
 /// name.
@@ -32,25 +23,36 @@ pub fn run<D: Desk>(alloc: Global, words: &[String], desk: &mut D) -> Outcome
     // With every answer other than Done and WriteFault nothing was made and nothing was said.
     ensures quiet { IsQuiet result (D.outside desk.old) (D.outside desk.new) }
     // Over every desk, Usage comes exactly where no command reads.
-    ensures usage { (at : ℕ) → (result ≡ Outcome.Usage at)
-        ↔ ((command_of (map string_bytes words.now) ≡ None) × (at ≡ usage_at (map string_bytes words.now))) }
+    ensures usage { (at : ℕ) → (result ≡ Outcome.Usage at) ↔ (command_read (map string_bytes words.now) ≡ Err at) }
+    // Whatever the command: with every answer but ReadFault and NoMemory its input is there, where
+    // the files are told, and the answer is due of it. For `edit` that answers Done: the input
+    // denotes a store, and the file made is the one canonical file of that store after all edits
+    // in order, and denotes it.
+    ensures headline { (command : Words) → command_read (map string_bytes words.now) ≡ Ok command
+        → Ends command result (D.outside desk.old) (D.outside desk.new) }
     // Where something is due, it is the answer; Done made and said all of it, WriteFault a front.
-    ensures due { IfSome (due (map string_bytes words.now) (D.outside desk.old).files)
-        (λ d. Answers d result (D.outside desk.old) (D.outside desk.new)) }
+    ensures due { ForDue (command_read (map string_bytes words.now)) (D.outside desk.old)
+        (λ Is. Answers Is result (D.outside desk.old) (D.outside desk.new)) }
     // Over a steady desk what is due is answered, or memory was refused.
-    ensures steady { (D.outside desk.old).steady ≡ true
-        → IfSome (due (map string_bytes words.now) (D.outside desk.old).files) (λ d. IsOrNoMemory result d.outcome) }
+    ensures steady { (D.outside desk.old).steady ≡ true → OutIsFree (command_read (map string_bytes words.now)) (D.outside desk.old)
+        → ForDue (command_read (map string_bytes words.now)) (D.outside desk.old) (λ Is. IsDueOrNoMemory Is result) }
     // So it is over every desk where no count rises in this call.
     ensures complete { ¬ Rose (D.outside desk.old).read_faults (D.outside desk.new).read_faults
         → ¬ Rose (D.outside desk.old).write_faults (D.outside desk.new).write_faults
-        → IfSome (due (map string_bytes words.now) (D.outside desk.old).files) (λ d. IsOrNoMemory result d.outcome) }
+        → ForDue (command_read (map string_bytes words.now)) (D.outside desk.old) (λ Is. IsDueOrNoMemory Is result) }
 {
-    match words {
-        [command, input] if command.as_str() == "boxes" => {
-            say_boxes(alloc, input.as_str(), desk)
+    match read_words(alloc, words) {
+        Ok(Command::Boxes { input }) => say_boxes(alloc, words[input].as_str(), desk),
+        Ok(Command::Edit { input, out, edits }) => {
+            edit_file(
+                alloc,
+                words[input].as_str(),
+                words[out].as_str(),
+                &edits,
+                desk,
+            )
         }
-        _ => Outcome::Usage {
-            at: place_of_fault(words),
-        },
+        Err(WordsFault::Usage { at }) => Outcome::Usage { at },
+        Err(WordsFault::NoMemory) => Outcome::NoMemory,
     }
 }

@@ -1,10 +1,10 @@
-use Rattle.std.proofs.Common.{subst, sym}
-use Rattle.hf_app.specs.Words.{IsUsageAt, usage_at}
-use Rattle.hf_app.proofs.WordLaws.{is_usage_at, one_usage}
+use Rattle.std.proofs.Common.{refl}
+use Rattle.hf_app.specs.Words.{command_read}
+use Rattle.hf_app.proofs.WordLaws.{usage-at, usage-none, at-usage}
 use Rattle.hf_app.proofs.laws.usage_is_at_one_place.Goals as goal
 
 pub returns : goal.returns
 returns c = λ words at. (
-  (λ is. one_usage words at (usage_at words) is (is_usage_at words)),
-  (λ e. subst (IsUsageAt words) (sym e) (is_usage_at words)),
+  (λ e. (usage-none words at e, usage-at words at e)),
+  (λ h. at-usage words at (command_read words) refl h.0 h.1),
 )

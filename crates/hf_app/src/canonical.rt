@@ -1,0 +1,24 @@
+//! The canonical file of a store, in memory.
+
+ghost use Rattle.std.specs.Prelude.{IfOk};
+ghost use Rattle.hf_plan.specs.Canon.{Canon};
+ghost use Rattle.hf_app.specs.Denotes.{Denotes};
+
+use crate::laws::canonical_file_denotes_its_store;
+use hf_base::NoMemory;
+use hf_plan::plan;
+use hf_store::Store;
+use hf_write::make;
+use std::alloc::Global;
+
+/// The bytes of the canonical file of a store, which denotes that store.
+pub fn canonical_file(alloc: Global, store: &Store<'_>) -> Result<Vec<u8>, NoMemory>
+    ensures canonical { IfOk result (λ bytes. Canon store.now bytes.items) }
+    ensures denoted { IfOk result (λ bytes. Denotes bytes.items store.now) }
+{
+    canonical_file_denotes_its_store();
+    // The store is valid and plain, which its length says.
+    let _count = store.len();
+    let plan = plan(alloc, store)?;
+    make(alloc, store, &plan)
+}

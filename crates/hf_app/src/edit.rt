@@ -1,0 +1,53 @@
+//! `edit IN OUT`, then edits: the canonical file of the store after all edits is made.
+
+ghost use Rattle.std.specs.Prelude.{◌≡◌, ◌≤◌, ℕ, true, false, length, map};
+ghost use Rattle.hf_base.specs.declared.limits.TheConstants.{EDITS};
+ghost use Rattle.hf_desk.specs.Outside.{Outside};
+ghost use Rattle.hf_desk.specs.Calls.{LacksFile};
+ghost use Rattle.hf_app.specs.Words.{EditFile};
+ghost use Rattle.hf_app.specs.Commands.{edit_of};
+ghost use Rattle.hf_app.specs.Due.{IsDueOf};
+ghost use Rattle.hf_app.specs.Answers.{Answers, Ends, ForFile, IsQuiet, HasCause, IsDueOrNoMemory, Stays};
+
+use crate::editing::edited;
+use crate::outcome::Outcome;
+use crate::stopping::{refused, stopped};
+use crate::words::EditWord;
+use hf_base::limits::FILE;
+use hf_desk::{Desk, make_file, read_all};
+use std::alloc::Global;
+
+/// Makes the file `out`: the canonical file of the store that the input denotes, after these edits
+/// in order. All that takes memory comes before the file is created.
+pub fn edit_file<D: Desk>(
+    alloc: Global,
+    input: &str,
+    out: &str,
+    edits: &[EditWord],
+    desk: &mut D,
+) -> Outcome
+    requires creating { (D.outside desk.old).creating ≡ false }
+    requires edits { length edits.now ≤ EDITS }
+    ensures stays { Stays (D.outside desk.old) (D.outside desk.new) }
+    ensures cause { HasCause result (D.outside desk.old) (D.outside desk.new) }
+    ensures quiet { IsQuiet result (D.outside desk.old) (D.outside desk.new) }
+    ensures no_usage { (at : ℕ) → result ≡ Outcome.Usage at → ⊥ }
+    ensures ends { Ends (EditFile input.now out.now (map edit_of edits.now)) result (D.outside desk.old) (D.outside desk.new) }
+    ensures due { ForFile (D.outside desk.old) input.now
+        (λ file. Answers (IsDueOf (EditFile input.now out.now (map edit_of edits.now)) file) result (D.outside desk.old) (D.outside desk.new)) }
+    ensures steady { (D.outside desk.old).steady ≡ true → LacksFile (D.outside desk.old) out.now
+        → ForFile (D.outside desk.old) input.now (λ file. IsDueOrNoMemory (IsDueOf (EditFile input.now out.now (map edit_of edits.now)) file) result) }
+{
+    let file = match read_all(alloc, desk, input, FILE) {
+        Ok(file) => file,
+        Err(why) => return stopped(0, why),
+    };
+    let bytes = match edited(alloc, &file, edits) {
+        Ok(bytes) => bytes,
+        Err(why) => return refused(why),
+    };
+    match make_file(desk, out, &bytes) {
+        Ok(()) => Outcome::Done,
+        Err(_) => Outcome::WriteFault,
+    }
+}

@@ -1,0 +1,75 @@
+//! A file after edits: the canonical file of its store.
+
+ghost use Rattle.std.specs.Prelude.{◌≡◌, ◌≤◌, ◌+◌, Ok, Err, Some, None, length, map, drop, OnOk, IfErr, OnErr, MatchResult};
+ghost use Rattle.hf_base.specs.declared.limits.TheConstants.{FILE, EDITS as MOST};
+ghost use Rattle.hf_store.specs.Changes.{step, why};
+ghost use Rattle.hf_app.specs.Commands.{edit_of};
+ghost use Rattle.hf_app.specs.Edits.{Edits, Steps, stepped};
+ghost use Rattle.hf_app.specs.declared.editing.Stop.TheVariants.{NoMemory as no_memory, Refused as refused};
+
+use crate::canonical::canonical_file;
+use crate::opening::open_store;
+use crate::words::EditWord;
+use hf_base::{NoMemory, OpenFault, ReadRefusal};
+use hf_store::{Reason, Store, remove_item};
+use std::alloc::Global;
+
+/// Why no bytes are made.
+#[derive(Clone, Copy, Debug, PartialEq, Eq)]
+pub enum Stop {
+    /// The input is refused.
+    Unfit(ReadRefusal),
+    /// The edit with this number, from 1, is refused.
+    Refused { edit: u32, why: Reason },
+    /// Memory was refused.
+    NoMemory,
+}
+
+impl From<NoMemory> for Stop {
+    ghost from_gives = { λ _ stop. stop ≡ no_memory };
+
+    fn from(_e: NoMemory) -> Stop {
+        Stop::NoMemory
+    }
+}
+
+/// Makes one edit, unless there is a reason against it.
+fn apply(store: &mut Store<'_>, edit: &EditWord) -> Result<(), Reason>
+    ensures free { OnOk result (why store.old (edit_of edit.now) ≡ None) }
+    ensures stepped { OnOk result (store.new ≡ step store.old (edit_of edit.now)) }
+    ensures reason { IfErr result (λ reason. why store.old (edit_of edit.now) ≡ Some reason) }
+{
+    match edit {
+        EditWord::Remove { id } => remove_item(store, *id),
+    }
+}
+
+/// Makes the edits in order, up to the first against which there is a reason.
+fn apply_all(store: &mut Store<'_>, edits: &[EditWord]) -> Result<(), Stop>
+    requires { length edits.now ≤ MOST }
+    ensures { Steps store.old (map edit_of edits.now) result store.new }
+{
+    let mut number = 1;
+    for edit in edits {
+        if let Err(why) = apply(store, edit) {
+            return Err(Stop::Refused { edit: number, why });
+        }
+        number += 1;
+    }
+    Ok(())
+}
+
+/// The canonical file of the store that a file denotes, after these edits in order.
+pub fn edited(alloc: Global, file: &[u8], edits: &[EditWord]) -> Result<Vec<u8>, Stop>
+    requires file { length file.now ≤ FILE }
+    requires edits { length edits.now ≤ MOST }
+    ensures { Edits file.now (map edit_of edits.now) result }
+{
+    let mut store = match open_store(alloc, file) {
+        Ok(store) => store,
+        Err(OpenFault::Unfit(why)) => return Err(Stop::Unfit(why)),
+        Err(OpenFault::NoMemory) => return Err(Stop::NoMemory),
+    };
+    apply_all(&mut store, edits)?;
+    Ok(canonical_file(alloc, &store)?)
+}
