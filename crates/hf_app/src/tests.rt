@@ -236,6 +236,21 @@ fn edits_end_in_their_outcomes(rt: HostRuntime) -> Result<(), Fail> {
 }
 
 #[test]
+fn a_plain_file_opens(rt: HostRuntime) -> Result<(), Fail> {
+    let store = open_store(rt.alloc(), &FILE)
+        .ok()
+        .ok_or("the file is plain")?;
+    assert_eq!(rt; store.len(), 1);
+    assert_eq!(rt; store.primary(), 1);
+    assert_eq!(rt; store.brands().compatible, b"mif1heic".as_slice());
+    let item = store.item(1).ok_or("the item is there")?;
+    assert_eq!(rt; item.kind, FourCc(*b"hvc1"));
+    assert_eq!(rt; item.body.count(), 1);
+    assert_eq!(rt; item.body.piece(0), b"\xaa\xbb\xcc".as_slice());
+    Ok(())
+}
+
+#[test]
 fn the_one_canonical_file_is_made(rt: HostRuntime) -> Result<(), Fail> {
     let cases: [&[&str]; 3] = [
         &["edit", "file", "b"],
