@@ -25,8 +25,8 @@ pub fn make(alloc: Global, store: &Store<'_>, plan: &Plan) -> Result<Vec<u8>, No
     if write(store, plan, &mut desk).is_err() {
         return Err(NoMemory);
     }
-    match desk.made() {
-        Some(bytes) => Ok(Vec::from_slice(alloc, bytes)?),
+    match desk.into_made() {
+        Some(bytes) => Ok(bytes),
         None => Err(NoMemory),
     }
 }

@@ -1,7 +1,6 @@
-use Rattle.std.proofs.Common.{ℕ, List, sym, ap, ◌∙◌, subst}
+use Rattle.std.proofs.Common.{sym, ap, ◌∙◌}
 use Rattle.hf_desk.specs.Outside.{Outside}
 use Rattle.hf_desk.specs.Memory.{memory_outside, memory_sound}
-use Rattle.hf_plan.specs.Canon.{Canon}
 use Rattle.hf_write.proofs.Made.{on_ok, made_is}
 use Rattle.hf_write.proofs.making.make.Goals as goal
 
@@ -12,6 +11,5 @@ returns-in-Some c =
     let after = c.write.new.desk in
     let created = on_ok c.create.result (sym c.is_err.ensures.value ∙ c.if-is_err.false) c.create.ensures.ok in
     let there = c.in-Some.ensures.bytes in
-    let canon = made_is s (memory_outside c.new-desk.result) (memory_outside before) (memory_outside after) c.write.result _ _ _ c.len-count.ensures.valid (memory_sound before) (memory_sound after)
-    (ap (λ (o : Outside). o.made) c.new-desk.ensures.outside) created (sym c.is_err-2.ensures.value ∙ c.if-is_err-2.false) c.write.ensures there.1 in
-    subst (λ (l : List ℕ). Canon s l) (sym c.in_ok-from_slice-in-Some.ensures.items) canon
+    made_is s (memory_outside c.new-desk.result) (memory_outside before) (memory_outside after) c.write.result _ _ _ c.len-count.ensures.valid (memory_sound before) (memory_sound after)
+    (ap (λ (o : Outside). o.made) c.new-desk.ensures.outside) created (sym c.is_err-2.ensures.value ∙ c.if-is_err-2.false) c.write.ensures there.1
