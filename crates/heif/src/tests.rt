@@ -1,7 +1,19 @@
 use super::*;
-use hf_desk::{Desk, ReadStop, put_all, read_all};
+use hf_desk::{Desk, MemoryDesk, ReadStop, put_all, read_all};
+use std::alloc::Global;
 use std::fs;
 use std::test::Fail;
+
+/// A file of one image of three bytes, a line for each box.
+const FILE: [u8; 193] = *b"\0\0\0\x18ftypheic\0\0\0\0mif1heic\
+    \0\0\0\x9emeta\0\0\0\0\
+    \0\0\0\x21hdlr\0\0\0\0\0\0\0\0pict\0\0\0\0\0\0\0\0\0\0\0\0\0\
+    \0\0\0\x0epitm\0\0\0\0\0\x01\
+    \0\0\0\x23iinf\0\0\0\0\0\x01\
+    \0\0\0\x15infe\x02\0\0\0\0\x01\0\0hvc1\0\
+    \0\0\0\x20iprp\0\0\0\x08ipco\0\0\0\x10ipma\0\0\0\0\0\0\0\0\
+    \0\0\0\x20iloc\x01\0\0\0\x44\0\0\x01\0\x01\0\0\0\0\0\x01\0\0\0\xbe\0\0\0\x03\
+    \0\0\0\x0bmdat\xaa\xbb\xcc";
 
 #[test]
 fn a_file_is_made_and_read_back(rt: HostRuntime) -> Result<(), Fail> {
@@ -26,5 +38,44 @@ fn a_file_is_made_and_read_back(rt: HostRuntime) -> Result<(), Fail> {
         Some(ReadStop::Fault)
     );
     fs::remove_file(&rt, "made")?;
+    Ok(())
+}
+
+/// Why the front of `FILE` with this many bytes is refused.
+fn refusal_of_front(len: usize) -> &'static str {
+    match len {
+        0 => "NoFtyp\n",
+        1..=7 => "Short 0\n",
+        8..=23 => "BadSize 0\n",
+        24 => "NoMeta\n",
+        25..=31 => "Short 24\n",
+        32..=181 => "BadSize 24\n",
+        182 => "OutOfFile 1\n",
+        183..=189 => "Short 182\n",
+        _ => "BadSize 182\n",
+    }
+}
+
+/// The line that is printed where this file is edited.
+fn line_of_edit(alloc: Global, file: &[u8]) -> Result<String, Fail> {
+    let mut words = Vec::new(alloc);
+    for word in ["edit", "in", "out"] {
+        words.push(String::from_str(alloc, word)?)?;
+    }
+    let mut desk = MemoryDesk::new(alloc);
+    desk.add("in", file)?;
+    let outcome = run(alloc, &words, &mut desk);
+    Ok(line_of(alloc, &outcome)?)
+}
+
+#[test]
+fn each_front_of_a_file_is_refused(rt: HostRuntime) -> Result<(), Fail> {
+    for len in 0..FILE.len() {
+        let line = line_of_edit(rt.alloc(), &FILE[..len])?;
+        assert_eq!(rt;
+            line.as_str().strip_prefix("heif: source 0: "),
+            Some(refusal_of_front(len))
+        );
+    }
     Ok(())
 }
