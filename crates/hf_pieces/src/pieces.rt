@@ -108,21 +108,6 @@ impl<'a> Pieces<'a> {
         filled
     }
 
-    /// Appends the bytes to a buffer. After `NoMemory` the buffer is as before.
-    pub fn append_to(&self, out: &mut Vec<u8>) -> Result<(), NoMemory>
-        ensures bytes { OnOk result (out.new.items ≡ out.old.items ++ joined self.now) }
-        ensures unchanged { OnErr result (out.new.items ≡ out.old.items) }
-    {
-        let before = out.len();
-        for slice in &self.slices {
-            if out.extend_from_slice(slice).is_err() {
-                out.truncate(before);
-                return Err(NoMemory);
-            }
-        }
-        Ok(())
-    }
-
     /// The same pieces again.
     pub fn try_clone(&self) -> Result<Pieces<'a>, NoMemory>
         ensures { IfOk result (λ p. p ≡ self.now) }
