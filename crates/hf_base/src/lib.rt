@@ -10,6 +10,7 @@ pub mod laws;
 pub mod limits;
 mod loc;
 mod number;
+mod seen;
 mod series;
 
 pub use fault::{NoMemory, OpenFault, ReadRefusal};
@@ -18,6 +19,7 @@ pub use front::{front_kind, front_version, front8, front16, front24, front32, fr
 pub use ids::Ids;
 pub use loc::{Extent, Extents, Loc, RefBox};
 pub use number::{be_put, be16, be32, be64};
+pub use seen::SeenIds;
 pub use series::{Series, TryClone};
 
 #[cfg(test)]
