@@ -5,7 +5,7 @@ use Rattle.std.proofs.lemmas.List.{take-append-drop, take_more, flat_map_more}
 use Rattle.std.proofs.lemmas.List.Concat.{flat_map-append}
 use Rattle.hf_desk.specs.Outside.{Outside}
 use Rattle.hf_desk.specs.Calls.{Puts, Says}
-use Rattle.hf_desk.specs.Pages.{Call, Put, Say, MayWrite, Writes, Gives}
+use Rattle.hf_desk.specs.Pages.{Call, ByPut, BySay, MayWrite, Writes, Gives}
 use Rattle.hf_desk.proofs.Joined.{Wrote}
 use Rattle.hf_desk.proofs.Written.{writes_nothing, writes_then, writes_more, writes_exit, may_again}
 
@@ -77,17 +77,17 @@ gives_stop call a b x m r s ie is p =
     subst (λ (l : List ℕ). Writes call a l s b) p.whole (writes_more call a b p.front p.rest s is (writes_exit call a b p.front r s ie is p.writes))
 
 module _ {a b : Outside} {x m : List ℕ} where
-  pub put_end : {c : Outside} {s : Wrote} → Gives Put a [] x (Ok tt) b m → Puts b m s c → Puts a x s c
-  put_end {c = c} {s = s} p q = gives_end Put a b c x m s p q
+  pub put_end : {c : Outside} {s : Wrote} → Gives ByPut a [] x (Ok tt) b m → Puts b m s c → Puts a x s c
+  put_end {c = c} {s = s} p q = gives_end ByPut a b c x m s p q
 
-  pub put_stop : {r s : Wrote} → IsErr r → IsErr s → Gives Put a [] x r b m → Puts a x s b
-  put_stop {r = r} {s = s} ie is p = gives_stop Put a b x m r s ie is p
+  pub put_stop : {r s : Wrote} → IsErr r → IsErr s → Gives ByPut a [] x r b m → Puts a x s b
+  put_stop {r = r} {s = s} ie is p = gives_stop ByPut a b x m r s ie is p
 
-  pub say_end : {c : Outside} {s : Wrote} → Gives Say a [] x (Ok tt) b m → Says b m s c → Says a x s c
-  say_end {c = c} {s = s} p q = gives_end Say a b c x m s p q
+  pub say_end : {c : Outside} {s : Wrote} → Gives BySay a [] x (Ok tt) b m → Says b m s c → Says a x s c
+  say_end {c = c} {s = s} p q = gives_end BySay a b c x m s p q
 
-  pub say_stop : {r s : Wrote} → IsErr r → IsErr s → Gives Say a [] x r b m → Says a x s b
-  say_stop {r = r} {s = s} ie is p = gives_stop Say a b x m r s ie is p
+  pub say_stop : {r s : Wrote} → IsErr r → IsErr s → Gives BySay a [] x r b m → Says a x s b
+  say_stop {r = r} {s = s} ie is p = gives_stop BySay a b x m r s ie is p
 
 -- one part for each element
 module _ {call : Call} {X : Type 0} (f : X → List ℕ) (xs : List X) (i : ℕ) (d : X) (less : i < length xs) where

@@ -7,19 +7,19 @@ use Rattle.hf_desk.specs.declared.write.WriteFault.{WriteFault}
 -- The two calls of a desk that write bytes.
 pub data Call : Type 0 where
   -- into the file that is made
-  Put : Call
+  ByPut : Call
   -- to what is said
-  Say : Call
+  BySay : Call
 
 -- When the call may be made.
 abbrev pub MayWrite : Call → Outside → Type 0
-MayWrite Put o = o.creating ≡ true
-MayWrite Say o = ⊤
+MayWrite ByPut o = o.creating ≡ true
+MayWrite BySay o = ⊤
 
 -- A piece is put, or said.
 abbrev pub Writes : Call → Outside → List ℕ → Result (Unit {0}) WriteFault → Outside → Type 0
-Writes Put = Puts
-Writes Say = Says
+Writes ByPut = Puts
+Writes BySay = Says
 
 -- Bytes are given to a page that holds some: a front of both, joined, is written, and the page is left with the rest, or after a fault with nothing.
 pub record Gives (call : Call) (old : Outside) (held bytes : List ℕ) (result : Result (Unit {0}) WriteFault) (new : Outside) (left : List ℕ) : Type 0 where

@@ -2,7 +2,7 @@
 
 ghost use Rattle.std.specs.Prelude.{◌≡◌, ◌+◌, ◌<◌, ◌≤◌, ◌++◌, [], length, true};
 ghost use Rattle.hf_desk.specs.Outside.{Outside};
-ghost use Rattle.hf_desk.specs.Pages.{Call, Put as PutCall, Say as SayCall, MayWrite, Writes, Gives};
+ghost use Rattle.hf_desk.specs.Pages.{Call, ByPut, BySay, MayWrite, Writes, Gives};
 
 use crate::{Desk, WriteFault, put_all, say_all};
 use std::marker::{Model, PhantomData};
@@ -27,7 +27,7 @@ pub trait WriteCall {
 pub struct Put;
 
 impl WriteCall for Put {
-    ghost call = { PutCall };
+    ghost call = { ByPut };
 
     fn write_all<D: Desk>(desk: &mut D, piece: &[u8]) -> Result<(), WriteFault> {
         put_all(desk, piece)
@@ -39,7 +39,7 @@ impl WriteCall for Put {
 pub struct Say;
 
 impl WriteCall for Say {
-    ghost call = { SayCall };
+    ghost call = { BySay };
 
     fn write_all<D: Desk>(desk: &mut D, piece: &[u8]) -> Result<(), WriteFault> {
         say_all(desk, piece)
