@@ -35,6 +35,12 @@ pub const IREF: FourCc = FourCc(*b"iref");
 /// Properties of items: `ItemPropertiesBox` of ISO/IEC 14496-12.
 pub const IPRP: FourCc = FourCc(*b"iprp");
 
+/// The properties themselves: `ItemPropertyContainerBox` of ISO/IEC 23008-12.
+pub const IPCO: FourCc = FourCc(*b"ipco");
+
+/// Which properties an item has: `ItemPropertyAssociationBox` of ISO/IEC 23008-12.
+pub const IPMA: FourCc = FourCc(*b"ipma");
+
 /// Groups of items: `GroupsListBox` of ISO/IEC 14496-12.
 pub const GRPL: FourCc = FourCc(*b"grpl");
 
@@ -70,3 +76,18 @@ pub const IOVL: FourCc = FourCc(*b"iovl");
 
 /// The type of an image that is another one, changed by its properties: ISO/IEC 23008-12.
 pub const IDEN: FourCc = FourCc(*b"iden");
+
+/// The property of a picture's size: `ImageSpatialExtentsProperty` of ISO/IEC 23008-12.
+pub const ISPE: FourCc = FourCc(*b"ispe");
+
+/// The property that turns a picture: `ImageRotation` of ISO/IEC 23008-12.
+pub const IROT: FourCc = FourCc(*b"irot");
+
+/// The property that mirrors a picture: `ImageMirror` of ISO/IEC 23008-12.
+pub const IMIR: FourCc = FourCc(*b"imir");
+
+/// The property that cuts a window out of a picture: `CleanApertureBox` of ISO/IEC 14496-12.
+pub const CLAP: FourCc = FourCc(*b"clap");
+
+/// The references of a derived image to what it is made of: ISO/IEC 23008-12.
+pub const DIMG: FourCc = FourCc(*b"dimg");

@@ -4,12 +4,23 @@
 mod fault;
 mod four;
 mod front;
+mod ids;
 pub mod kinds;
 pub mod laws;
 pub mod limits;
+mod loc;
 mod number;
+mod seen;
+mod series;
 
 pub use fault::{NoMemory, OpenFault, ReadRefusal};
 pub use four::{FourCc, four_at};
 pub use front::{front_kind, front_version, front8, front16, front24, front32, front64, split};
+pub use ids::Ids;
+pub use loc::{Extent, Extents, Loc, RefBox};
 pub use number::{be_put, be16, be32, be64};
+pub use seen::SeenIds;
+pub use series::{Series, TryClone};
+
+#[cfg(test)]
+mod tests;

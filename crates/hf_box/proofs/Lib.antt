@@ -9,3 +9,4 @@ pub mod Walking
 pub mod HeadLemmas
 pub mod WalkLaws
 pub mod Worked
+pub mod TableLaws

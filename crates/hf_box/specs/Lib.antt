@@ -5,3 +5,4 @@ pub mod Literals
 pub mod Walk
 pub mod Worked
 pub mod Written
+pub mod Tables

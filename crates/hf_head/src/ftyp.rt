@@ -6,12 +6,13 @@ ghost use Rattle.hf_base.specs.declared.limits.TheConstants.{FILE};
 ghost use Rattle.hf_box.specs.Head.{box};
 ghost use Rattle.hf_desk.specs.Outside.{Outside};
 ghost use Rattle.hf_desk.specs.Calls.{Puts};
+ghost use Rattle.hf_desk.specs.Pages.{ByPut, Gives};
 ghost use Rattle.hf_head.specs.Ftyp.{Brands as Stated, IsFtyp, brands_of, ftyp_at, ftyp_body};
 
 use hf_base::kinds::FTYP;
 use hf_base::{FourCc, ReadRefusal, be_put, front_kind, front32};
 use hf_box::BoxView;
-use hf_desk::{Desk, WriteFault, put_all};
+use hf_desk::{Desk, Page, Put, WriteFault};
 
 /// The brands of a file (FileTypeBox of ISO/IEC 14496-12).
 #[derive(Clone, Copy, Debug)]
@@ -79,6 +80,22 @@ fn front_of(major: FourCc, minor: u32, len: u64) -> [u8; 16]
     bytes
 }
 
+/// Gives a whole `ftyp` with these brands to a page. `WriteFault` comes only where the desk failed;
+/// then some front of what the page held and of the box was put.
+pub fn give_ftyp<D: Desk>(
+    brands: &Brands<'_>,
+    page: &mut Page<Put>,
+    desk: &mut D,
+) -> Result<(), WriteFault>
+    requires creating { (D.outside desk.old).creating ≡ true }
+    requires within { length brands.now.compatible.now ≤ FILE }
+    ensures { Gives ByPut (D.outside desk.old) page.old (box FTYP (ftyp_body (brands_of brands.now))) result (D.outside desk.new) page.new }
+{
+    let front = front_of(brands.major, brands.minor, brands.compatible.len() as u64);
+    page.give(&front, desk)?;
+    page.give(brands.compatible, desk)
+}
+
 /// Puts a whole `ftyp` with these brands. `WriteFault` comes only where the desk failed; then some
 /// front of the box was put.
 pub fn put_ftyp<D: Desk>(brands: &Brands<'_>, desk: &mut D) -> Result<(), WriteFault>
@@ -86,7 +103,7 @@ pub fn put_ftyp<D: Desk>(brands: &Brands<'_>, desk: &mut D) -> Result<(), WriteF
     requires within { length brands.now.compatible.now ≤ FILE }
     ensures { Puts (D.outside desk.old) (box FTYP (ftyp_body (brands_of brands.now))) result (D.outside desk.new) }
 {
-    let front = front_of(brands.major, brands.minor, brands.compatible.len() as u64);
-    put_all(desk, &front)?;
-    put_all(desk, brands.compatible)
+    let mut page = Page::new();
+    give_ftyp(brands, &mut page, desk)?;
+    page.end(desk)
 }

@@ -5,12 +5,13 @@ ghost use Rattle.hf_base.specs.Reading.{Reads};
 ghost use Rattle.hf_box.specs.Head.{box};
 ghost use Rattle.hf_desk.specs.Outside.{Outside};
 ghost use Rattle.hf_desk.specs.Calls.{Puts};
+ghost use Rattle.hf_desk.specs.Pages.{ByPut, Gives};
 ghost use Rattle.hf_head.specs.Hdlr.{IsHdlr, handler_at, hdlr_at, hdlr_body};
 
 use hf_base::kinds::{HDLR, PICT};
 use hf_base::{FourCc, ReadRefusal, be_put, front_kind, front_version, front32};
 use hf_box::BoxView;
-use hf_desk::{Desk, WriteFault, put_all};
+use hf_desk::{Desk, Page, Put, WriteFault};
 
 /// The handler type in a body, with the place of its box.
 #[tactic(auto, unfolding(crate::specs::Hdlr::handler_at))]
@@ -74,12 +75,23 @@ fn picture_box() -> [u8; 33]
     bytes
 }
 
+/// Gives a whole `hdlr` with the handler of pictures (ISO/IEC 23008-12) and no name to a page.
+/// `WriteFault` comes only where the desk failed; then some front of what the page held and of the box
+/// was put.
+pub fn give_hdlr<D: Desk>(page: &mut Page<Put>, desk: &mut D) -> Result<(), WriteFault>
+    requires { (D.outside desk.old).creating ≡ true }
+    ensures { Gives ByPut (D.outside desk.old) page.old (box HDLR hdlr_body) result (D.outside desk.new) page.new }
+{
+    page.give(&picture_box(), desk)
+}
+
 /// Puts a whole `hdlr` with the handler of pictures (ISO/IEC 23008-12) and no name. `WriteFault` comes
 /// only where the desk failed; then some front of the box was put.
 pub fn put_hdlr<D: Desk>(desk: &mut D) -> Result<(), WriteFault>
     requires { (D.outside desk.old).creating ≡ true }
     ensures { Puts (D.outside desk.old) (box HDLR hdlr_body) result (D.outside desk.new) }
 {
-    let bytes = picture_box();
-    put_all(desk, &bytes)
+    let mut page = Page::new();
+    give_hdlr(&mut page, desk)?;
+    page.end(desk)
 }

@@ -6,9 +6,9 @@ mod hdlr;
 pub mod laws;
 mod pitm;
 
-pub use ftyp::{Brands, put_ftyp, read_ftyp};
-pub use hdlr::{put_hdlr, read_hdlr};
-pub use pitm::{put_pitm, read_pitm};
+pub use ftyp::{Brands, give_ftyp, put_ftyp, read_ftyp};
+pub use hdlr::{give_hdlr, put_hdlr, read_hdlr};
+pub use pitm::{give_pitm, put_pitm, read_pitm};
 
 #[cfg(test)]
 mod tests;

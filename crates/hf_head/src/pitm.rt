@@ -6,12 +6,13 @@ ghost use Rattle.hf_box.specs.Head.{box};
 ghost use Rattle.hf_box.specs.Written.{id_width};
 ghost use Rattle.hf_desk.specs.Outside.{Outside};
 ghost use Rattle.hf_desk.specs.Calls.{Puts};
+ghost use Rattle.hf_desk.specs.Pages.{ByPut, Gives};
 ghost use Rattle.hf_head.specs.Pitm.{IsPitm, pitm_at, id_at, pitm_body};
 
 use hf_base::kinds::PITM;
 use hf_base::{ReadRefusal, be_put, front_version, front16, front32};
 use hf_box::BoxView;
-use hf_desk::{Desk, WriteFault, put_all};
+use hf_desk::{Desk, Page, Put, WriteFault};
 
 /// The id behind a version and flags, with the place of its box.
 #[tactic(auto, unfolding(crate::specs::Pitm::id_at))]
@@ -88,6 +89,25 @@ fn wide_box(id: u32) -> [u8; 16]
     bytes
 }
 
+/// Gives a whole `pitm` with the id of the primary item to a page; the id takes four bytes where `wide`
+/// and two otherwise. `WriteFault` comes only where the desk failed; then some front of what the page
+/// held and of the box was put.
+pub fn give_pitm<D: Desk>(
+    id: u32,
+    wide: bool,
+    page: &mut Page<Put>,
+    desk: &mut D,
+) -> Result<(), WriteFault>
+    requires creating { (D.outside desk.old).creating ≡ true }
+    requires fits { id < 256 ^ id_width wide }
+    ensures { Gives ByPut (D.outside desk.old) page.old (box PITM (pitm_body wide id)) result (D.outside desk.new) page.new }
+{
+    if wide {
+        return page.give(&wide_box(id), desk);
+    }
+    page.give(&narrow_box(id), desk)
+}
+
 /// Puts a whole `pitm` with the id of the primary item, which takes four bytes where `wide` and two
 /// otherwise. `WriteFault` comes only where the desk failed; then some front of the box was put.
 pub fn put_pitm<D: Desk>(id: u32, wide: bool, desk: &mut D) -> Result<(), WriteFault>
@@ -95,8 +115,7 @@ pub fn put_pitm<D: Desk>(id: u32, wide: bool, desk: &mut D) -> Result<(), WriteF
     requires fits { id < 256 ^ id_width wide }
     ensures { Puts (D.outside desk.old) (box PITM (pitm_body wide id)) result (D.outside desk.new) }
 {
-    if wide {
-        return put_all(desk, &wide_box(id));
-    }
-    put_all(desk, &narrow_box(id))
+    let mut page = Page::new();
+    give_pitm(id, wide, &mut page, desk)?;
+    page.end(desk)
 }

@@ -116,6 +116,7 @@ fn a_wide_primary_item_is_put(rt: HostRuntime) -> Result<(), Fail> {
 fn a_put_that_fails_ends_the_box(rt: HostRuntime) -> Result<(), Fail> {
     let mut desk = MemoryDesk::new(rt.alloc());
     desk.create("new")?;
+    desk.take_at_most(16);
     desk.fail(3)?;
     assert!(rt; put_ftyp(&heic(), &mut desk).is_err());
     assert_eq!(rt; desk.made(), Some(&BRANDS[..16]));

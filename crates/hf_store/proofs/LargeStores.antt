@@ -1,5 +1,6 @@
 -- Stores at the limits.
 use Rattle.std.specs.List.{flat_map}
+use Rattle.hf_base.specs.Entries.{HasNoZero}
 use Rattle.hf_base.specs.Reading.{full as full_box}
 use Rattle.hf_box.specs.Head.{box_len, box}
 use Rattle.hf_store.specs.Store.{Item}
@@ -15,7 +16,7 @@ use Rattle.hf_box.specs.Written.{id_width, id_version}
 use Rattle.hf_head.specs.Hdlr.{hdlr_body}
 use Rattle.hf_head.specs.Pitm.{pitm_body}
 use Rattle.hf_store.specs.Table.{table_of}
-use Rattle.hf_store.specs.Valid.{body_sum, meta_len, HasNoZero, Valid}
+use Rattle.hf_store.specs.Valid.{body_sum, meta_len, Valid}
 use Rattle.hf_store.specs.LargeStores.{named, picture_of, referring_to, MetaIsKept, BodyIsKept, LinksAreKept}
 use Rattle.hf_store.proofs.Ends.{ends}
 use Rattle.hf_store.proofs.Finds.{found, some_has}

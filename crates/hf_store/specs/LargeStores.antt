@@ -1,8 +1,9 @@
 -- Stores at the limits, whatever their bytes are.
 use Rattle.std.specs.Prelude.{ℕ, ◌≡◌, List, [], ◌∷◌, length}
+use Rattle.hf_base.specs.Entries.{HasNoZero}
 use Rattle.hf_store.specs.Store.{ItemStore}
 use Rattle.hf_store.specs.WorkedStores.{heic, plain, references}
-use Rattle.hf_store.specs.Valid.{HasNoZero, Valid}
+use Rattle.hf_store.specs.Valid.{Valid}
 
 -- one item with this name, and without bytes
 unfoldable pub named : List ℕ → ItemStore

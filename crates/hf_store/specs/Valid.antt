@@ -4,6 +4,7 @@ use Rattle.std.specs.List.{AllByRecursion, sum_by}
 use Rattle.std.specs.Ordering.{nat_cmp}
 use Rattle.std.specs.declared.cmp.Ordering.TheVariants.{Less}
 use Rattle.std.specs.Cmp.Lexicographic.{slice_cmp}
+use Rattle.hf_base.specs.Entries.{HasNoZero}
 use Rattle.hf_base.specs.declared.four.FourCc.{FourCc}
 use Rattle.hf_base.specs.declared.limits.TheConstants as limits
 use Rattle.hf_box.specs.Head.{box}
@@ -30,10 +31,6 @@ IsFour kind = length kind.0 ≡ 4
 -- types rise by their bytes
 abbrev pub IsBelow : FourCc → FourCc → Type 0
 IsBelow a b = slice_cmp nat_cmp a.0 b.0 ≡ Less
-
--- a string has no zero byte, which ends it in a file
-abbrev pub HasNoZero : List ℕ → Type 0
-HasNoZero bytes = AllByRecursion (λ byte. 0 < byte) bytes
 
 -- the brand is one of those that take four bytes each
 abbrev pub HasBrand : FourCc → List ℕ → Type 0

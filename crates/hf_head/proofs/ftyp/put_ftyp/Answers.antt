@@ -1,10 +1,9 @@
-use Rattle.std.proofs.Common.{List, ℕ, refl, subst}
-use Rattle.hf_desk.specs.Calls.{Puts}
-use Rattle.hf_desk.proofs.Joined.{puts_then}
+use Rattle.std.proofs.Common.{refl}
+use Rattle.hf_desk.proofs.Paging.{put_end, put_stop}
 use Rattle.hf_head.proofs.ftyp.put_ftyp.Goals as goal
 
+pub returns-in_err-give_ftyp : goal.returns-in_err-give_ftyp
+returns-in_err-give_ftyp g c = put_stop refl c.from_residual.ensures.0 (rw c.new-page.ensures at c.in_err-give_ftyp.ensures)
+
 pub returns : goal.returns
-returns g c =
-    let outside = g.D.Desk.outside in
-    let whole = c.front_of-front.ensures c.args.brands.now.compatible.now refl in
-    subst (λ (l : List ℕ). Puts (outside c.args.desk.now) l c.put_all-2.result (outside c.put_all-2.new.desk)) whole (puts_then c.in_ok-put_all.ensures c.put_all-2.ensures)
+returns g c = put_end (rw c.new-page.ensures at c.in_ok-give_ftyp.ensures) c.end.ensures.writes

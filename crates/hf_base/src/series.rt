@@ -1,0 +1,88 @@
+//! Lists inside records, which contracts see as the list of their elements.
+
+ghost use Rattle.std.specs.Prelude.{◌≡◌, [], ◌∷◌, ◌++◌, ◌<◌, length, slice_get, Some, IfOk, OnOk, OnErr};
+
+use crate::fault::NoMemory;
+use std::alloc::Global;
+use std::marker::Model;
+
+/// A value that is copied where there is memory.
+pub trait TryClone: Sized {
+    /// The same value again. `NoMemory` comes where memory was refused.
+    fn try_clone(&self) -> Result<Self, NoMemory>
+        ensures { IfOk result (λ copy. copy ≡ self.now) };
+}
+
+/// A list inside a record. It keeps its allocator.
+#[derive(Debug, Drop)]
+pub struct Series<T> {
+    elements: Vec<T>,
+}
+
+impl<T> Model for Series<T> {
+    ghost use Rattle.std.specs.Prelude.{List as list};
+    ghost use Rattle.std.specs.Coded.{coded_list};
+
+    ghost Value = { list T };
+
+    ghost coded = { coded_list T.code };
+
+    ghost view = { λ a. a.elements.items };
+}
+
+impl<T> Series<T> {
+    /// No elements.
+    pub fn new(alloc: Global) -> Series<T>
+        ensures { result ≡ [] }
+    {
+        Series {
+            elements: Vec::new(alloc),
+        }
+    }
+
+    /// How many elements there are.
+    pub fn len(&self) -> usize
+        ensures { result ≡ length self.now }
+    {
+        self.elements.len()
+    }
+
+    /// The element at a place, counted from 0.
+    pub fn get(&self, i: usize) -> &T
+        requires { i < length self.now }
+        ensures { slice_get self.now i ≡ Some result.now }
+    {
+        &self.elements[i]
+    }
+
+    /// The elements, where they lie.
+    pub fn as_slice(&self) -> &[T]
+        ensures { result.now ≡ self.now }
+    {
+        self.elements.as_slice()
+    }
+}
+
+impl<T: Drop> Series<T> {
+    /// One more element at the end; it is spent in every case. After `NoMemory` the list is as before.
+    pub fn push(&mut self, element: T) -> Result<(), NoMemory>
+        ensures pushed { OnOk result (self.new ≡ self.old ++ element ∷ []) }
+        ensures unchanged { OnErr result (self.new ≡ self.old) }
+    {
+        self.elements.push(element)?;
+        Ok(())
+    }
+}
+
+impl<T: TryClone + Drop> Series<T> {
+    /// The same list again. `NoMemory` comes where memory was refused.
+    pub fn try_clone(&self) -> Result<Series<T>, NoMemory>
+        ensures { IfOk result (λ copy. copy ≡ self.now) }
+    {
+        let mut elements = Vec::new(*self.elements.allocator());
+        for element in &self.elements {
+            elements.push(element.try_clone()?)?;
+        }
+        Ok(Series { elements })
+    }
+}
