@@ -5,9 +5,9 @@ use Rattle.std.proofs.lemmas.List.{take-append-drop, take_more, flat_map_more}
 use Rattle.std.proofs.lemmas.List.Concat.{flat_map-append}
 use Rattle.hf_desk.specs.Outside.{Outside}
 use Rattle.hf_desk.specs.Calls.{Puts, Says}
-use Rattle.hf_desk.specs.Pages.{Call, ByPut, BySay, MayWrite, Writes, Gives}
+use Rattle.hf_desk.specs.Pages.{Call, ByPut, BySay, Writes, Gives}
 use Rattle.hf_desk.proofs.Joined.{Wrote}
-use Rattle.hf_desk.proofs.Written.{writes_nothing, writes_then, writes_more, writes_exit, may_again}
+use Rattle.hf_desk.proofs.Written.{writes_nothing, writes_then, writes_more, writes_exit}
 
 -- nothing is given at first
 pub gives_nothing : (call : Call) (o : Outside) (held : List ℕ) → Gives call o held [] (Ok tt) o held
@@ -60,10 +60,6 @@ module _ {call : Call} {a b : Outside} {h x m : List ℕ} where
   gives_exit {r = Ok r} ie is p = absurd (cc (ie))
   gives_exit {r = Err e} {s = Ok s} ie is p = absurd (cc (is))
   gives_exit {r = Err e} {s = Err f} ie is p = record { front = p.front; rest = p.rest; whole = p.whole; writes = writes_exit call a b p.front (Err e) (Err f) refl refl p.writes; ok = tt; err = p.err }
-
-  -- more may be given to the page
-  pub may_give : {r : Wrote} → Gives call a h x r b m → MayWrite call a → MayWrite call b
-  may_give {r = r} p may = may_again call a b p.front r p.writes may
 
 -- what is given to an empty page, which is then written, is written
 gives_end : (call : Call) (a b c : Outside) (x m : List ℕ) (s : Wrote) → Gives call a [] x (Ok tt) b m → Writes call b m s c → Writes call a x s c
