@@ -17,7 +17,6 @@ pub mod ItemLemmas
 pub mod LevelLemmas
 pub mod LoopLemmas
 pub mod OpeningLemmas
-pub mod Paging
 pub mod PlaceLemmas
 pub mod ReadLemmas
 pub mod SortLemmas

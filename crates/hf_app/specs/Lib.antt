@@ -9,7 +9,6 @@ pub mod Iinf
 pub mod Iloc
 pub mod Items
 pub mod Lines
-pub mod Pages
 pub mod Parts
 pub mod Places
 pub mod PlainFiles

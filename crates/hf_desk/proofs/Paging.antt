@@ -1,13 +1,13 @@
 -- Bytes given to a page one behind the other.
-use Rattle.std.proofs.Common.{◌≡◌, ℕ, ◌<◌, ◌+◌, List, [], ◌++◌, length, take, drop, get_or, subst, Ok, Err, IsErr, refl, sym, ◌∙◌, ap, append-nil, append_assoc}
+use Rattle.std.proofs.Common.{◌≡◌, ℕ, ◌<◌, ◌≤◌, ◌+◌, List, [], ◌++◌, length, take, drop, get_or, subst, Ok, Err, IsErr, refl, sym, ◌∙◌, ap, append-nil, append_assoc}
 use Rattle.std.specs.List.{flat_map}
-use Rattle.std.proofs.lemmas.List.{take-append-drop, take_more, flat_map_more}
+use Rattle.std.proofs.lemmas.List.{take-append-drop, take_more, take_all, flat_map_more}
 use Rattle.std.proofs.lemmas.List.Concat.{flat_map-append}
 use Rattle.hf_desk.specs.Outside.{Outside}
 use Rattle.hf_desk.specs.Calls.{Puts, Says}
-use Rattle.hf_desk.specs.Pages.{Call, ByPut, BySay, MayWrite, Writes, Gives}
+use Rattle.hf_desk.specs.Pages.{Call, ByPut, BySay, Writes, Gives}
 use Rattle.hf_desk.proofs.Joined.{Wrote}
-use Rattle.hf_desk.proofs.Written.{writes_nothing, writes_then, writes_more, writes_exit, may_again}
+use Rattle.hf_desk.proofs.Written.{writes_nothing, writes_then, writes_more, writes_exit}
 
 -- nothing is given at first
 pub gives_nothing : (call : Call) (o : Outside) (held : List ℕ) → Gives call o held [] (Ok tt) o held
@@ -61,9 +61,13 @@ module _ {call : Call} {a b : Outside} {h x m : List ℕ} where
   gives_exit {r = Err e} {s = Ok s} ie is p = absurd (cc (is))
   gives_exit {r = Err e} {s = Err f} ie is p = record { front = p.front; rest = p.rest; whole = p.whole; writes = writes_exit call a b p.front (Err e) (Err f) refl refl p.writes; ok = tt; err = p.err }
 
-  -- more may be given to the page
-  pub may_give : {r : Wrote} → Gives call a h x r b m → MayWrite call a → MayWrite call b
-  may_give {r = r} p may = may_again call a b p.front r p.writes may
+-- the same, of bytes that are these
+pub gives_as : {call : Call} {a b : Outside} {h x y m : List ℕ} {r : Wrote} → x ≡ y → Gives call a h x r b m → Gives call a h y r b m
+gives_as {call = call} {a = a} {b = b} {h = h} {m = m} {r = r} e p = subst (λ (l : List ℕ). Gives call a h l r b m) e p
+
+-- the exit of a `?` behind bytes that were not given whole, where more was to come
+pub gives_stops : {call : Call} {a b : Outside} {h x m : List ℕ} {r s : Wrote} (rest : List ℕ) → IsErr r → IsErr s → Gives call a h x r b m → Gives call a h (x ++ rest) s b m
+gives_stops rest ir is p = gives_exit ir is (gives_more rest ir p)
 
 -- what is given to an empty page, which is then written, is written
 gives_end : (call : Call) (a b c : Outside) (x m : List ℕ) (s : Wrote) → Gives call a [] x (Ok tt) b m → Writes call b m s c → Writes call a x s c
@@ -92,11 +96,16 @@ module _ {a b : Outside} {x m : List ℕ} where
 -- one part for each element
 module _ {call : Call} {X : Type 0} (f : X → List ℕ) (xs : List X) (i : ℕ) (d : X) (less : i < length xs) where
   pub gives_each : {a b c : Outside} {h m n : List ℕ} {s : Wrote} → Gives call a h (flat_map f (take i xs)) (Ok tt) b m → Gives call b m (f (get_or xs i d)) s c n → Gives call a h (flat_map f (take (i + 1) xs)) s c n
-  gives_each {a = a} {c = c} {h = h} {n = n} {s = s} p q =
+  gives_each p q =
       let more : flat_map f (take i xs) ++ f (get_or xs i d) ≡ flat_map f (take (i + 1) xs) = flat_map_more f [] (take i xs) (get_or xs i d) ∙ ap (λ (l : List X). flat_map f l) (sym (take_more xs i d less)) in
-      subst (λ (l : List ℕ). Gives call a h l s c n) more (gives_then p q)
+      gives_as more (gives_then p q)
 
-  pub gives_each_stop : {a c : Outside} {h n : List ℕ} {s : Wrote} → IsErr s → Gives call a h (flat_map f (take (i + 1) xs)) s c n → Gives call a h (flat_map f xs) s c n
-  gives_each_stop {a = a} {c = c} {h = h} {n = n} {s = s} ie p =
+  -- the part of this element could not be given
+  pub gives_each_stop : {a b c : Outside} {h m n : List ℕ} {r s : Wrote} → IsErr r → IsErr s → Gives call a h (flat_map f (take i xs)) (Ok tt) b m → Gives call b m (f (get_or xs i d)) r c n → Gives call a h (flat_map f xs) s c n
+  gives_each_stop ir is p q =
       let whole : flat_map f (take (i + 1) xs) ++ flat_map f (drop (i + 1) xs) ≡ flat_map f xs = sym (flat_map-append f (take (i + 1) xs) (drop (i + 1) xs)) ∙ ap (λ (l : List X). flat_map f l) (take-append-drop (i + 1) xs) in
-      subst (λ (l : List ℕ). Gives call a h l s c n) whole (gives_more (flat_map f (drop (i + 1) xs)) ie p)
+      gives_as whole (gives_stops (flat_map f (drop (i + 1) xs)) ir is (gives_each p q))
+
+-- the part of each element was given
+pub gives_all : {call : Call} {X : Type 0} (f : X → List ℕ) (xs : List X) (i : ℕ) {a b : Outside} {h m : List ℕ} {s : Wrote} → length xs ≤ i → Gives call a h (flat_map f (take i xs)) s b m → Gives call a h (flat_map f xs) s b m
+gives_all {X = X} f xs i all p = gives_as (ap (λ (l : List X). flat_map f l) (take_all i xs all)) p

@@ -1,7 +1,7 @@
 -- Pieces written one behind the other, by either call.
-use Rattle.std.proofs.Common.{◌∙◌, ℕ, List, [], ◌++◌, Ok, IsErr}
+use Rattle.std.proofs.Common.{ℕ, List, [], ◌++◌, Ok, IsErr}
 use Rattle.hf_desk.specs.Outside.{Outside}
-use Rattle.hf_desk.specs.Pages.{Call, ByPut, BySay, MayWrite, Writes}
+use Rattle.hf_desk.specs.Pages.{Call, ByPut, BySay, Writes}
 use Rattle.hf_desk.proofs.Joined as put
 use Rattle.hf_desk.proofs.Joined.{Wrote}
 use Rattle.hf_desk.proofs.Spoken as say
@@ -25,8 +25,3 @@ writes_more BySay a b x y r ie p = say.says_more y ie p
 pub writes_exit : (call : Call) (a b : Outside) (x : List ℕ) (r s : Wrote) → IsErr r → IsErr s → Writes call a x r b → Writes call a x s b
 writes_exit ByPut a b x r s ie is p = put.puts_exit ie is p
 writes_exit BySay a b x r s ie is p = say.says_exit ie is p
-
--- a call that may be made may be made again
-pub may_again : (call : Call) (a b : Outside) (x : List ℕ) (r : Wrote) → Writes call a x r b → MayWrite call a → MayWrite call b
-may_again ByPut a b x r p may = p.only.creating ∙ may
-may_again BySay a b x r p may = tt

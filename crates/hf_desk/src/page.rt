@@ -19,7 +19,8 @@ pub trait WriteCall {
     /// piece was written.
     fn write_all<D: Desk>(desk: &mut D, piece: &[u8]) -> Result<(), WriteFault>
         requires { MayWrite call (D.outside desk.old) }
-        ensures { Writes call (D.outside desk.old) piece.now result (D.outside desk.new) };
+        ensures writes { Writes call (D.outside desk.old) piece.now result (D.outside desk.new) }
+        ensures again { MayWrite call (D.outside desk.new) };
 }
 
 /// Bytes are put into the file that is made.
@@ -98,6 +99,7 @@ impl<W: WriteCall> Page<W> {
         requires { MayWrite W.call (D.outside desk.old) }
         ensures writes { Writes W.call (D.outside desk.old) self.old result (D.outside desk.new) }
         ensures empty { self.new ≡ [] }
+        ensures again { MayWrite W.call (D.outside desk.new) }
     {
         let done = W::write_all(desk, &self.bytes[..self.len]);
         self.len = 0;
@@ -121,6 +123,7 @@ impl<W: WriteCall> Page<W> {
     /// Gives a piece to the page. Where it fits, the desk is not called. After `WriteFault` some front
     /// of what the page held and of the piece was written, and the page holds nothing.
     #[inline]
+    #[tactic(auto, using(crate::proofs::Paging::gives_kept))]
     pub fn give<D: Desk>(&mut self, piece: &[u8], desk: &mut D) -> Result<(), WriteFault>
         requires { MayWrite W.call (D.outside desk.old) }
         ensures gives { Gives W.call (D.outside desk.old) self.old piece.now result (D.outside desk.new) self.new }
