@@ -7,6 +7,7 @@ pub mod LargeStores
 pub mod Lengths
 pub mod References
 pub mod Places
+pub mod Needers
 pub mod PlainLengths
 pub mod Reasons
 pub mod RefusedStores
