@@ -11,6 +11,7 @@ pub mod Seen
 pub mod Store
 pub mod Table
 pub mod Valid
+pub mod WorkedChanges
 pub mod WorkedFiles
 pub mod WorkedPhotograph
 pub mod WorkedStores
