@@ -12,6 +12,7 @@ pub mod Store
 pub mod Table
 pub mod Valid
 pub mod WorkedChanges
+pub mod WorkedDerived
 pub mod WorkedFiles
 pub mod WorkedPhotograph
 pub mod WorkedStores

@@ -3,6 +3,7 @@
 
 pub mod broken;
 pub mod changed;
+pub mod derived;
 mod item;
 pub mod laws;
 mod reason;
