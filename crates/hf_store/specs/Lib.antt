@@ -14,6 +14,7 @@ pub mod Valid
 pub mod WorkedChanges
 pub mod WorkedDerived
 pub mod WorkedFiles
+pub mod WorkedLinks
 pub mod WorkedPhotograph
 pub mod WorkedStores
 pub mod WorkedTables

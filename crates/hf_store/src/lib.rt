@@ -6,6 +6,7 @@ pub mod changed;
 pub mod derived;
 mod item;
 pub mod laws;
+pub mod linked;
 mod reason;
 mod removal;
 mod store;
