@@ -12,6 +12,7 @@ pub mod PlainLengths
 pub mod Reasons
 pub mod RefusedStores
 pub mod Removals
+pub mod Seen
 pub mod Spots
 pub mod Tables
 pub mod ValidStores

@@ -7,6 +7,7 @@ pub mod derived;
 mod item;
 pub mod laws;
 pub mod linked;
+pub mod plain;
 mod reason;
 mod removal;
 mod store;
