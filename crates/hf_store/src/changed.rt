@@ -2,7 +2,7 @@
 
 ghost use Rattle.std.specs.Prelude.{◌≡◌, None, Some, [], ◌∷◌};
 ghost use Rattle.hf_store.specs.BadStores.{primary_of_none};
-ghost use Rattle.hf_store.specs.Changes.{id_at, Remove, removed, step, why};
+ghost use Rattle.hf_store.specs.Changes.{id_at, Needs, Remove, removed, step, why};
 ghost use Rattle.hf_store.specs.WorkedChanges.{needed_by_three, second_gone, second_in_all, third_refers, third_to_second};
 ghost use Rattle.hf_store.specs.WorkedStores.{identity_item, one_picture, photograph, references, two_pictures};
 ghost use Rattle.hf_store.specs.declared.reason.Reason.TheVariants.{IsPrimary, Needed, NoItem};
@@ -32,6 +32,8 @@ pub fn some_references_need_their_item()
     ensures itself { why (third_refers (references "prem" (3 ∷ []) ∷ [])) (Remove 3) ≡ None }
     ensures the_other_way { why (third_to_second "tbas") (Remove 3) ≡ None }
     ensures least { why needed_by_three (Remove 2) ≡ Some (Needed 4) }
+    ensures third_needs_second { Needs (third_to_second "tbas") 3 2 }
+    ensures second_needs_no_third { Needs (third_to_second "tbas") 2 3 → ⊥ }
 {}
 
 /// The first reason against an edit is given. In the photograph a tile is needed by the grid, which
