@@ -1,8 +1,8 @@
 -- What a test finds is there.
-use Rattle.std.proofs.Common.{◌≡◌, ◌<◌, ℕ, Bool, true, false, ◌||◌, List, [], ◌∷◌, length, refl, arith, subst, eqb-true, inl, inr}
+use Rattle.std.proofs.Common.{◌≡◌, ◌<◌, ℕ, Bool, true, false, ◌||◌, List, [], ◌∷◌, length, refl, ap, arith, subst, eqb-true, inl, inr}
 use Rattle.std.specs.Prelude.{◌==◌}
 use Rattle.std.specs.List.{list_any, list_all, AllByRecursion}
-use Rattle.std.proofs.lemmas.Bool.{cases_Bool, and_parts}
+use Rattle.std.proofs.lemmas.Bool.{cases_Bool, and_parts, eq-eqb}
 use Rattle.hf_store.specs.Layout.{has_bytes}
 use Rattle.hf_store.specs.Lists.{IsIn}
 
@@ -13,6 +13,11 @@ found x (y ∷ ys) e =
       | inl here ↦ inl (eqb-true y x here)
       | inr not_here ↦ inr (found x ys (subst (λ (b : Bool). (b || list_any (λ z. z == x) ys) ≡ true) not_here e))
     ]
+
+pub finds : (x : ℕ) (xs : List ℕ) → IsIn x xs → list_any (λ y. y == x) xs ≡ true
+finds x [] h = absurd h
+finds x (y ∷ ys) (inl e) = ap (λ b. b || list_any (λ z. z == x) ys) (eq-eqb y x e)
+finds x (y ∷ ys) (inr h) = elim (y == x) as (λ b. (b || list_any (λ z. z == x) ys) ≡ true) [ true ↦ refl | false ↦ finds x ys h ]
 
 pub all_found : (ids xs : List ℕ) → list_all (λ x. list_any (λ y. y == x) ids) xs ≡ true → AllByRecursion (λ x. IsIn x ids) xs
 all_found ids [] e = tt

@@ -7,10 +7,12 @@ pub mod LargeStores
 pub mod Lengths
 pub mod References
 pub mod Places
+pub mod Needers
 pub mod PlainLengths
 pub mod Reasons
 pub mod RefusedStores
 pub mod Removals
+pub mod Seen
 pub mod Spots
 pub mod Tables
 pub mod ValidStores

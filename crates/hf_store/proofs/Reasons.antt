@@ -1,5 +1,5 @@
 -- Which reasons there are against the removal of an item of a plain store.
-use Rattle.std.proofs.Common.{◌≡◌, ◌≢◌, ℕ, Bool, true, false, not, ◌&&◌, ◌||◌, cond, List, [], ◌∷◌, refl, sym, ap, ◌∙◌, subst, eqb-true, inl, inr, Option, Some, None}
+use Rattle.std.proofs.Common.{◌≡◌, ◌≢◌, ℕ, Bool, true, false, not, ◌&&◌, cond, List, [], ◌∷◌, refl, sym, ap, ◌∙◌, subst, eqb-true, inl, inr, Option, Some, None}
 use Rattle.std.specs.Prelude.{◌==◌, slice_get, option_map, if◌then◌else◌}
 use Rattle.std.specs.List.{list_any}
 use Rattle.std.proofs.lemmas.Bool.{cases_Bool, eq-eqb}
@@ -10,7 +10,7 @@ use Rattle.hf_store.specs.Plain.{ArePlain, IsPlain}
 use Rattle.hf_store.specs.Changes.{needed_by, id_at, removed, why_not_removed}
 use Rattle.hf_store.specs.declared.reason.Reason.{Reason}
 use Rattle.hf_store.specs.declared.reason.Reason.TheVariants.{NoItem, IsPrimary, Needed}
-use Rattle.hf_store.proofs.Finds.{found}
+use Rattle.hf_store.proofs.Finds.{found, finds}
 use Rattle.hf_store.proofs.Spots.{in_at, at_or}
 use Rattle.hf_store.proofs.Removals.{removed-plain, valid_left}
 
@@ -18,11 +18,6 @@ none_needs : (id : ℕ) (is : List Item) → ArePlain is → needed_by id is ≡
 none_needs id [] plain = refl
 none_needs id (i ∷ is) plain =
     rw plain.0.refs (elim (not (i.id == id)) as (λ b. cond (b && false) (Some i.id) (needed_by id is) ≡ None) [ true ↦ none_needs id is plain.1 | false ↦ none_needs id is plain.1 ])
-
-finds : (x : ℕ) (xs : List ℕ) → IsIn x xs → list_any (λ y. y == x) xs ≡ true
-finds x [] h = absurd h
-finds x (y ∷ ys) (inl e) = ap (λ b. b || list_any (λ z. z == x) ys) (eq-eqb y x e)
-finds x (y ∷ ys) (inr h) = elim (y == x) as (λ b. (b || list_any (λ z. z == x) ys) ≡ true) [ true ↦ refl | false ↦ finds x ys h ]
 
 -- the reasons, by whether the item is there and whether it is the primary
 abbrev reason_by : Bool → Bool → Option ℕ → Option Reason

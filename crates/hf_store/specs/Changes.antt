@@ -1,5 +1,5 @@
 -- What an edit makes of a store, and when it is refused. These rules are this project's own.
-use Rattle.std.specs.Prelude.{ℕ, ◌≡◌, ◌==◌, Bool, not, ◌&&◌, ◌||◌, IsTrue, List, [], ◌∷◌, length, map, filter, Option, Some, None, option_map, if◌then◌else◌, get_or}
+use Rattle.std.specs.Prelude.{ℕ, ◌≡◌, ◌≢◌, ◌↔◌, ◌≤◌, ◌==◌, Bool, not, ◌&&◌, ◌||◌, IsTrue, List, [], ◌∷◌, length, map, filter, Option, Some, None, option_map, if◌then◌else◌, get_or}
 use Rattle.std.specs.List.{list_any}
 use Rattle.hf_base.specs.declared.four.FourCc.{FourCc}
 use Rattle.hf_box.specs.Literals.{four}
@@ -65,6 +65,12 @@ abbrev pub needed_by : ℕ → List Item → Option ℕ
 needed_by id [] = None
 needed_by id (i ∷ is) = if not (i.id == id) && needs id i then Some i.id else needed_by id is
 
+-- by is the least of the other items that need this one
+pub record IsLeastNeeder (s : ItemStore) (id by : ℕ) : Type 0 where
+  pub other : by ≢ id
+  pub needed : Needs s by id
+  pub least : (a : ℕ) → a ≢ id → Needs s a id → by ≤ a
+
 -- ---- edits
 
 pub data Edit : Type 0 where
@@ -87,6 +93,14 @@ abbrev pub why : ItemStore → Edit → Option Reason
 why s (Remove id) = why_not_removed s id
 
 -- ---- laws
+
+-- where ids rise, as in each valid store, `needed_by` tells the least other item that needs this one
+abbrev pub LeastNeederIsTold : Type 0
+LeastNeederIsTold = (s : ItemStore) (id by : ℕ) → Valid s → (needed_by id s.items ≡ Some by) ↔ IsLeastNeeder s id by
+
+-- and in any store none exactly where no other item needs it
+abbrev pub NoNeederIsTold : Type 0
+NoNeederIsTold = (s : ItemStore) (id : ℕ) → (needed_by id s.items ≡ None) ↔ ((a : ℕ) → a ≢ id → Needs s a id → ⊥)
 
 -- an edit against which there is no reason leaves a plain store valid
 abbrev pub StepsKeepValidity : Type 0

@@ -11,7 +11,10 @@ pub mod Seen
 pub mod Store
 pub mod Table
 pub mod Valid
+pub mod WorkedChanges
+pub mod WorkedDerived
 pub mod WorkedFiles
+pub mod WorkedLinks
 pub mod WorkedPhotograph
 pub mod WorkedStores
 pub mod WorkedTables

@@ -1,6 +1,6 @@
 //! Laws of the item store. Each is the contract of a function that does nothing.
 
-ghost use Rattle.hf_store.specs.Changes.{StepsKeepValidity, StepsKeepPlain};
+ghost use Rattle.hf_store.specs.Changes.{LeastNeederIsTold, NoNeederIsTold, StepsKeepValidity, StepsKeepPlain};
 ghost use Rattle.hf_store.specs.Picks.{NumbersSelect, SelectsOnce};
 ghost use Rattle.hf_store.specs.References.{BoxesAreWritten, ReferencesComeBack, ReferencesOnce};
 
@@ -23,4 +23,11 @@ pub fn references_come_back()
 pub fn steps_keep_validity()
     ensures valid { StepsKeepValidity }
     ensures plain { StepsKeepPlain }
+{}
+
+/// The item that is told to need another one is the least of the other items that have a reference
+/// of type `dimg`, `tbas` or `prem` to it, and none is told exactly where there is none.
+pub fn least_needer_is_told()
+    ensures some { LeastNeederIsTold }
+    ensures none { NoNeederIsTold }
 {}

@@ -2,8 +2,12 @@
 #![tactic(auto)]
 
 pub mod broken;
+pub mod changed;
+pub mod derived;
 mod item;
 pub mod laws;
+pub mod linked;
+pub mod plain;
 mod reason;
 mod removal;
 mod store;
