@@ -1,6 +1,7 @@
 pub mod BoxLengths
 pub mod Ends
 pub mod FieldLengths
+pub mod GridFiles
 pub mod Finds
 pub mod LaidFiles
 pub mod LargeStores

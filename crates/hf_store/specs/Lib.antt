@@ -12,6 +12,7 @@ pub mod Store
 pub mod Table
 pub mod Valid
 pub mod WorkedFiles
+pub mod WorkedGrids
 pub mod WorkedPhotograph
 pub mod WorkedStores
 pub mod WorkedTables

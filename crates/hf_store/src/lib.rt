@@ -2,6 +2,7 @@
 #![tactic(auto)]
 
 pub mod broken;
+pub mod grids;
 mod item;
 pub mod laws;
 mod reason;
