@@ -3,6 +3,7 @@ pub mod Changes
 pub mod Derived
 pub mod LargeStores
 pub mod Layout
+pub mod LimitStores
 pub mod Lists
 pub mod Picks
 pub mod References

@@ -5,6 +5,7 @@ pub mod broken;
 pub mod grids;
 mod item;
 pub mod laws;
+pub mod limits;
 mod reason;
 mod removal;
 mod store;
