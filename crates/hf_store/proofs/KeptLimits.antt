@@ -6,7 +6,7 @@ use Rattle.hf_store.specs.Table.{props_of, table_of}
 use Rattle.hf_store.specs.Derived.{input_pairs}
 use Rattle.hf_store.specs.Layout.{ipco_body}
 use Rattle.hf_store.specs.Valid.{body_sum, meta_len, Valid}
-use Rattle.hf_store.specs.LimitStores.{mif1_second, mif1_third, mif1_major, mif1_alone, greatest_minor, greatest_id, greatest_group, numbered, holders, compatible_with, ItemsAreKept, PropsAreKept, KindsAreKept, BrandsAreKept}
+use Rattle.hf_store.specs.LimitStores.{mif1_second, mif1_third, mif1_major, mif1_alone, greatest_minor, greatest_id, greatest_group, least_bytes, numbered, holders, compatible_with, ItemsAreKept, PropsAreKept, KindsAreKept, BrandsAreKept}
 use Rattle.hf_store.proofs.BoxLengths.{length-box, box_len-le}
 use Rattle.hf_store.proofs.BareLengths.{no_inputs-bare, no_bytes-bare, meta-bare}
 use Rattle.hf_store.proofs.Ends.{ends}
@@ -54,6 +54,12 @@ pub valid_greatest_group : Valid greatest_group
 unfolding layout greatest_group
 valid_greatest_group =
     let ends = ends (λ id. 0) (input_pairs greatest_group.items) refl in
+    search (found, ends, arith)
+
+pub valid_least_bytes : Valid least_bytes
+unfolding layout least_bytes
+valid_least_bytes =
+    let ends = ends (λ id. 0) (input_pairs least_bytes.items) refl in
     search (found, ends, arith)
 
 -- ---- brands

@@ -1,7 +1,7 @@
 -- Stores at the limits of counts and widths, and the same with one more.
 use Rattle.std.specs.Prelude.{ℕ, ◌≡◌, ◌+◌, ◌-◌, ◌*◌, ◌/◌, ◌%◌, ◌^◌, List, [], ◌∷◌, ◌++◌, length, map, codes}
 use Rattle.std.specs.List.{range_with_len}
-use Rattle.hf_box.specs.Literals.{four}
+use Rattle.hf_box.specs.Literals.{four, hex_of}
 use Rattle.hf_store.specs.Store.{Held, Item, ItemStore}
 use Rattle.hf_store.specs.BadStores.{only, grouped, alternative}
 use Rattle.hf_store.specs.WorkedStores.{heic, plain, optional}
@@ -38,6 +38,10 @@ greatest_id = only (plain (256 ^ 4 - 1) "hvc1" [])
 -- the greatest version, flags and id of a group, which has the picture twice
 unfoldable pub greatest_group : ItemStore
 greatest_group = grouped (record alternative { version = 255; flags = 256 ^ 3 - 1; id = 256 ^ 4 - 1; entities = 1 ∷ 1 ∷ [] })
+
+-- strings of the least and the greatest byte that they may have
+unfoldable pub least_bytes : ItemStore
+least_bytes = only (record (plain 1 "mime" []) { name = hex_of "01ff"; content = hex_of "01ff"; encoding = hex_of "01ff" })
 
 -- ---- counts
 
