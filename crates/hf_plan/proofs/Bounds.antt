@@ -12,7 +12,7 @@ use Rattle.hf_store.specs.Lists.{IsIn, RisesFrom}
 use Rattle.hf_store.specs.Store.{Prop, Held, RefList, Item, Group, ItemStore, ids_of}
 use Rattle.hf_box.specs.Literals.{four}
 use Rattle.hf_box.specs.Written.{id_width}
-use Rattle.hf_head.specs.Ftyp.{Brands, ftyp_body}
+use Rattle.hf_head.specs.Ftyp.{ftyp_body}
 use Rattle.hf_store.specs.Table.{same_prop, table_of, number_of}
 use Rattle.hf_store.specs.Layout.{Homes, own, is_wide, box_if_any, group_body, group_box, has_bytes, with_bytes, in_idat, is_data_item, bytes_in, mdat_body, idat_body, mdat_offset, idat_offset, meta_front, laid}
 use Rattle.hf_store.specs.Valid.{body_sum, IsGoodRef, IsGoodItem, IsGoodGroup, Valid}

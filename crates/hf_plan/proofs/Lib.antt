@@ -5,5 +5,7 @@ pub mod Large
 pub mod Lengths
 pub mod LongOffsets
 pub mod OneFile
+pub mod OnePlan
 pub mod Places
 pub mod Plans
+pub mod PlansWorked

@@ -25,3 +25,7 @@ NarrowIsAsLong = (s : ItemStore) (F G : List ℕ) → Lay s 4 F → Lay s 8 G �
 -- a plan is that of the canonical file: it has its length, and its width of offsets
 abbrev pub PlanIsCanon : Type 0
 PlanIsCanon = (s : ItemStore) (p : Planned) (F : List ℕ) → Valid s → IsPlan s p → Canon s F → Lay s (offset_width p.long) F × (length F ≡ p.total)
+
+-- a store has one plan at most
+abbrev pub OnePlan : Type 0
+OnePlan = (s : ItemStore) (p q : Planned) → IsPlan s p → IsPlan s q → p ≡ q

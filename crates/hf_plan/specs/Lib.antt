@@ -7,3 +7,4 @@ pub mod LongOffsets
 pub mod Places
 pub mod Plan
 pub mod Seen
+pub mod WorkedPlans

@@ -1,6 +1,6 @@
 //! Laws of the canonical file. Each is the contract of a function that does nothing.
 
-ghost use Rattle.hf_plan.specs.Laws.{HasCanon, OneCanon, NarrowIsAsLong, NarrowIsShorter, PlanIsCanon};
+ghost use Rattle.hf_plan.specs.Laws.{HasCanon, OneCanon, NarrowIsAsLong, NarrowIsShorter, OnePlan, PlanIsCanon};
 ghost use Rattle.hf_plan.specs.Places.{BytesStand};
 
 /// Each valid store has one canonical file, and only one.
@@ -25,4 +25,9 @@ pub fn bytes_stand_at_their_offsets()
 /// The plan of a store is that of its canonical file: it has the length and the offsets' width.
 pub fn plan_is_of_the_canonical_file()
     ensures { PlanIsCanon }
+{}
+
+/// A store has one plan, and no other.
+pub fn one_plan()
+    ensures { OnePlan }
 {}

@@ -6,6 +6,7 @@ mod planned;
 mod planning;
 mod sizes;
 pub mod worked;
+pub mod worked_plans;
 
 pub use planned::Plan;
 pub use planning::{located_count, plan};

@@ -1,17 +1,21 @@
 -- Stores at the limits.
-use Rattle.std.specs.List.{flat_map}
+use Rattle.std.specs.List.{AllByRecursion, flat_map}
 use Rattle.hf_base.specs.Entries.{HasNoZero}
+use Rattle.hf_base.specs.Number.{num}
+use Rattle.hf_base.specs.NumberLaws.{length-num}
+use Rattle.hf_base.specs.declared.four.FourCc.{FourCc}
+use Rattle.hf_store.specs.Lists.{IsIn}
 use Rattle.hf_base.specs.Reading.{full as full_box}
 use Rattle.hf_box.specs.Head.{box_len, box}
 use Rattle.hf_store.specs.Store.{Item}
 use Rattle.hf_box.specs.Literals.{four}
 use Rattle.hf_store.specs.WorkedStores.{plain}
-use Rattle.hf_store.proofs.BoxLengths.{length-box, box_len-short}
-use Rattle.hf_store.proofs.FieldLengths.{strings_len, length-infe_body, length-iinf_body, length-meta_front}
+use Rattle.hf_store.proofs.BoxLengths.{length-box, box_len-le, box_len-short}
+use Rattle.hf_store.proofs.FieldLengths.{strings_len, length-infe_body, length-iinf_body, length-reference_body, length-meta_front}
 use Rattle.hf_store.proofs.Lengths.{meta_body_len, meta_len-is}
-use Rattle.std.proofs.Common.{◌≡◌, ℕ, ◌+◌, ◌<◌, ◌≤◌, ◌*◌, ◌^◌, ap, ◌∙◌, true, false, List, [], ◌∷◌, length, length-append, refl, arith}
+use Rattle.std.proofs.Common.{◌≡◌, ℕ, ◌+◌, ◌<◌, ◌≤◌, ◌*◌, ◌^◌, ap, ◌∙◌, true, false, List, [], ◌∷◌, ◌++◌, length, length-append, refl, sym, arith, inl}
 use Rattle.hf_store.specs.Derived.{input_pairs}
-use Rattle.hf_store.specs.Layout.{has_bytes, is_wide, with_bytes, infe_body, iinf_body, iprp_body, box_if_any, reference_boxes, group_box, idat_body}
+use Rattle.hf_store.specs.Layout.{has_bytes, is_wide, with_bytes, infe_body, iinf_body, iprp_body, box_if_any, reference_body, reference_boxes, group_box, idat_body}
 use Rattle.hf_box.specs.Written.{id_width, id_version}
 use Rattle.hf_head.specs.Hdlr.{hdlr_body}
 use Rattle.hf_head.specs.Pitm.{pitm_body}
@@ -82,6 +86,54 @@ refused_picture bytes len valid = omega (arith, len, valid.body)
 pub body_is_kept : BodyIsKept
 body_is_kept = (λ bytes len. valid_picture bytes len (picture_len bytes (some_has bytes (omega (arith, len))) len), refused_picture)
 
-pub links_are_kept : LinksAreKept
+-- ---- references
+
+if_any-le : (kind : FourCc) (fields body : List ℕ) → length kind.0 ≡ 4 → length (box_if_any kind fields body) ≤ 16 + length fields + length body
+unfolding box_if_any
+if_any-le kind fields [] four = omega arith
+if_any-le kind fields (b ∷ bs) four = omega (arith, length-box kind (fields ++ b ∷ bs) four, box_len-le (length (fields ++ b ∷ bs)), length-append fields (b ∷ bs))
+
+referring_box : (ids : List ℕ) → length (reference_boxes false (referring_to ids).items) ≤ 20 + length ids * 2
+unfolding referring_to reference_boxes
+referring_box ids =
+    let body = length-reference_body false 1 ids in
+    simp length-append (omega (arith, length-box (four "cdsc") (reference_body false 1 ids) refl, box_len-le (length (reference_body false 1 ids)), body))
+
+-- the boxes beside it
+referring_others : (ids : List ℕ)
+    → box_len (length hdlr_body) + box_len (length (pitm_body (is_wide (referring_to ids).items) (referring_to ids).primary)) + box_len (length (iinf_body (is_wide (referring_to ids).items) (referring_to ids).items))
+    + box_len (length (iprp_body (is_wide (referring_to ids).items) (referring_to ids)))
+    + length (box_if_any (four "grpl") [] (flat_map group_box (referring_to ids).groups))
+    + length (box_if_any (four "idat") [] (idat_body (referring_to ids).items))
+    + box_len (6 + id_width (is_wide (referring_to ids).items) + length (with_bytes (referring_to ids).items) * (6 + id_width (is_wide (referring_to ids).items) + (8 + 8)))
+    ≡ 130
+unfolding layout referring_to
+referring_others ids = refl
+
+referring_iref : (ids : List ℕ) → length ids ≡ 65535 → length (box_if_any (four "iref") (full_box (id_version (is_wide (referring_to ids).items)) 0) (reference_boxes (is_wide (referring_to ids).items) (referring_to ids).items)) ≤ 131110
+unfolding is_wide referring_to
+referring_iref ids len =
+    let boxes = referring_box ids in
+    omega (arith, len, if_any-le (four "iref") (full_box 0 0) (reference_boxes false (referring_to ids).items) refl, boxes, length-num 1 0, length-num 3 0, length-append (num 0 1) (num 0 3))
+
+referring_len : (ids : List ℕ) → length ids ≡ 65535 → meta_len (referring_to ids) ≤ 200000
+unfolding meta_body_len
+referring_len ids len = omega (arith, meta_len-is (referring_to ids), length-meta_front (referring_to ids), referring_others ids, referring_iref ids len, box_len-le (meta_body_len 8 (referring_to ids)))
+
+only_ones : (ids : List ℕ) → AllByRecursion (λ id. id ≡ 1) ids → AllByRecursion (λ id. IsIn id (1 ∷ [])) ids
+only_ones [] ones = tt
+only_ones (id ∷ ids) ones = (inl (sym ones.0), only_ones ids ones.1)
+
+valid_referring : (ids : List ℕ) → AllByRecursion (λ id. id ≡ 1) ids → length ids ≡ 65535 → meta_len (referring_to ids) ≤ 200000 → Valid (referring_to ids)
+unfolding referring_to table_of body_sum
+valid_referring ids ones len meta =
+    let ends = ends (λ id. 0) (input_pairs (referring_to ids).items) refl in
+    let there = only_ones ids ones in
+    search (found, ends, there, arith)
+
+refused_referring : (ids : List ℕ) → length ids ≡ 65536 → Valid (referring_to ids) → ⊥
 unfolding referring_to
-links_are_kept ids len valid = omega (arith, len, valid.items.0.refs.0.links)
+refused_referring ids len valid = omega (arith, len, valid.items.0.refs.0.links)
+
+pub links_are_kept : LinksAreKept
+links_are_kept = (λ ids ones len. valid_referring ids ones len (referring_len ids len), refused_referring)

@@ -1,7 +1,11 @@
+pub mod BareLengths
 pub mod BoxLengths
 pub mod Ends
 pub mod FieldLengths
+pub mod GridFiles
+pub mod Holders
 pub mod Finds
+pub mod KeptLimits
 pub mod LaidFiles
 pub mod LargeStores
 pub mod Lengths

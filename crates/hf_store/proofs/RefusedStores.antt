@@ -2,7 +2,7 @@
 use Rattle.std.proofs.Common.{ℕ, zero, suc, refl, arith, inl, inr}
 use Rattle.hf_store.specs.Derived.{input_pairs, IsEndless}
 use Rattle.hf_store.specs.Valid.{Valid}
-use Rattle.hf_store.specs.BadStores.{brands_of_five_bytes, content_without_mime, cycle, dangling_reference, empty_reference, grid_cut_short, grid_of_long_sides_cut_short, grid_of_two_with_one, group_of_none, group_of_others, group_of_wide_flags, groups_of_one_id, identity_of_none, ids_of_one, iloc_reference, made_of_itself, mif1_across_brands, overlay_cut_short, primary_of_none, properties_256, references_fall, references_twice, uri_without_uri, without_mif1, zero_id, zero_in_name}
+use Rattle.hf_store.specs.BadStores.{brands_of_five_bytes, content_without_mime, cycle, dangling_reference, empty_reference, encoding_without_mime, grid_cut_short, grid_of_long_sides_cut_short, grid_of_two_with_one, group_of_none, group_of_others, group_of_wide_flags, group_of_wide_id, group_of_wide_version, group_type_of_five_bytes, groups_of_one_id, id_of_five_bytes, identity_of_none, ids_of_one, iloc_reference, made_of_itself, major_of_five_bytes, mif1_across_brands, minor_of_five_bytes, overlay_cut_short, primary_of_none, properties_256, property_type_of_five_bytes, reference_type_of_five_bytes, references_fall, references_twice, type_of_five_bytes, type_of_three_bytes, uri_without_uri, without_mif1, zero_id, zero_in_content, zero_in_encoding, zero_in_name, zero_in_uri}
 
 pub refused_without_mif1 : Valid without_mif1 → ⊥
 unfolding without_mif1
@@ -99,6 +99,62 @@ refused_group_of_wide_flags valid = let field = valid.groups in grind arith
 pub refused_properties_256 : Valid properties_256 → ⊥
 unfolding properties_256
 refused_properties_256 valid = let field = valid.items.0.props in grind arith
+
+pub refused_major_of_five_bytes : Valid major_of_five_bytes → ⊥
+unfolding major_of_five_bytes
+refused_major_of_five_bytes valid = let field = valid.brands.major in grind arith
+
+pub refused_minor_of_five_bytes : Valid minor_of_five_bytes → ⊥
+unfolding minor_of_five_bytes
+refused_minor_of_five_bytes valid = let field = valid.brands.minor in grind arith
+
+pub refused_id_of_five_bytes : Valid id_of_five_bytes → ⊥
+unfolding id_of_five_bytes
+refused_id_of_five_bytes valid = let field = valid.items.0.id in grind arith
+
+pub refused_type_of_five_bytes : Valid type_of_five_bytes → ⊥
+unfolding type_of_five_bytes
+refused_type_of_five_bytes valid = let field = valid.items.0.kind in grind arith
+
+pub refused_type_of_three_bytes : Valid type_of_three_bytes → ⊥
+unfolding type_of_three_bytes
+refused_type_of_three_bytes valid = let field = valid.items.0.kind in grind arith
+
+pub refused_zero_in_content : Valid zero_in_content → ⊥
+unfolding zero_in_content
+refused_zero_in_content valid = let field = valid.items.0.content in grind arith
+
+pub refused_zero_in_encoding : Valid zero_in_encoding → ⊥
+unfolding zero_in_encoding
+refused_zero_in_encoding valid = let field = valid.items.0.encoding in grind arith
+
+pub refused_zero_in_uri : Valid zero_in_uri → ⊥
+unfolding zero_in_uri
+refused_zero_in_uri valid = let field = valid.items.0.uri in grind arith
+
+pub refused_encoding_without_mime : Valid encoding_without_mime → ⊥
+unfolding encoding_without_mime
+refused_encoding_without_mime valid = let field = valid.items.0.only_mime in grind arith
+
+pub refused_property_type_of_five_bytes : Valid property_type_of_five_bytes → ⊥
+unfolding property_type_of_five_bytes
+refused_property_type_of_five_bytes valid = let field = valid.items.0.prop_kinds in grind arith
+
+pub refused_reference_type_of_five_bytes : Valid reference_type_of_five_bytes → ⊥
+unfolding reference_type_of_five_bytes
+refused_reference_type_of_five_bytes valid = let field = valid.items.0.refs.0.kind in grind arith
+
+pub refused_group_type_of_five_bytes : Valid group_type_of_five_bytes → ⊥
+unfolding group_type_of_five_bytes
+refused_group_type_of_five_bytes valid = let field = valid.groups.0.kind in grind arith
+
+pub refused_group_of_wide_version : Valid group_of_wide_version → ⊥
+unfolding group_of_wide_version
+refused_group_of_wide_version valid = let field = valid.groups.0.version in grind arith
+
+pub refused_group_of_wide_id : Valid group_of_wide_id → ⊥
+unfolding group_of_wide_id
+refused_group_of_wide_id valid = let field = valid.groups.0.id in grind arith
 
 turn : ℕ → ℕ
 turn zero = 1

@@ -2,7 +2,7 @@
 use Rattle.std.specs.Prelude.{◌^◌, [], ◌∷◌, map, replicate, codes}
 use Rattle.std.specs.List.{range_with_len}
 use Rattle.hf_box.specs.Literals.{four, hex_of}
-use Rattle.hf_store.specs.Store.{ItemStore}
+use Rattle.hf_store.specs.Store.{Item, Group, ItemStore}
 use Rattle.hf_store.specs.WorkedStores.{heic, plain, optional, references}
 
 -- the brand `mif1` at no multiple of four bytes, and no other
@@ -217,7 +217,7 @@ group_of_none = record {
 unfoldable pub zero_id : ItemStore
 zero_id = record {
   brands = heic;
-  primary = 1;
+  primary = 0;
   items =
       plain 0 "hvc1" []
       ∷ [];
@@ -251,3 +251,71 @@ properties_256 = record { brands = heic; primary = 1; items = record (plain 1 "h
 -- an identity item that is made of itself
 unfoldable pub made_of_itself : ItemStore
 made_of_itself = record { brands = heic; primary = 1; items = record (plain 1 "iden" []) { refs = references "dimg" (1 ∷ []) ∷ [] } ∷ []; groups = [] }
+
+-- this item alone, which is the primary
+abbrev pub only : Item → ItemStore
+only i = record { brands = heic; primary = i.id; items = i ∷ []; groups = [] }
+
+-- one picture, and this group
+abbrev pub grouped : Group → ItemStore
+grouped g = record { brands = heic; primary = 1; items = plain 1 "hvc1" [] ∷ []; groups = g ∷ [] }
+
+-- a group of the picture
+abbrev pub alternative : Group
+alternative = record { kind = four "altr"; version = 0; flags = 0; id = 5; entities = 1 ∷ []; tail = [] }
+
+-- a major brand of five bytes
+unfoldable pub major_of_five_bytes : ItemStore
+major_of_five_bytes = record (only (plain 1 "hvc1" [])) { brands = record heic { major = four "heicx" } }
+
+-- a minor version that takes more than four bytes
+unfoldable pub minor_of_five_bytes : ItemStore
+minor_of_five_bytes = record (only (plain 1 "hvc1" [])) { brands = record heic { minor = 256 ^ 4 } }
+
+-- an id that takes more than four bytes
+unfoldable pub id_of_five_bytes : ItemStore
+id_of_five_bytes = only (plain (256 ^ 4) "hvc1" [])
+
+-- an item type of five bytes
+unfoldable pub type_of_five_bytes : ItemStore
+type_of_five_bytes = only (plain 1 "hvc1x" [])
+
+-- an item type of three bytes
+unfoldable pub type_of_three_bytes : ItemStore
+type_of_three_bytes = only (plain 1 "hvc" [])
+
+-- a zero byte in a content type
+unfoldable pub zero_in_content : ItemStore
+zero_in_content = only (record (plain 1 "mime" []) { content = hex_of "610062" })
+
+-- a zero byte in a content encoding
+unfoldable pub zero_in_encoding : ItemStore
+zero_in_encoding = only (record (plain 1 "mime" []) { encoding = hex_of "610062" })
+
+-- a zero byte in a URI type
+unfoldable pub zero_in_uri : ItemStore
+zero_in_uri = only (record (plain 1 "uri " []) { uri = hex_of "610062" })
+
+-- a content encoding of an item that is not `mime`
+unfoldable pub encoding_without_mime : ItemStore
+encoding_without_mime = only (record (plain 1 "uri " []) { encoding = codes "x" })
+
+-- a property type of five bytes
+unfoldable pub property_type_of_five_bytes : ItemStore
+property_type_of_five_bytes = only (record (plain 1 "hvc1" []) { props = optional "propx" [] ∷ [] })
+
+-- a reference type of five bytes
+unfoldable pub reference_type_of_five_bytes : ItemStore
+reference_type_of_five_bytes = only (record (plain 1 "hvc1" []) { refs = references "cdscx" (1 ∷ []) ∷ [] })
+
+-- a group type of five bytes
+unfoldable pub group_type_of_five_bytes : ItemStore
+group_type_of_five_bytes = grouped (record alternative { kind = four "altrx" })
+
+-- a group whose version takes more than one byte
+unfoldable pub group_of_wide_version : ItemStore
+group_of_wide_version = grouped (record alternative { version = 256 })
+
+-- a group whose id takes more than four bytes
+unfoldable pub group_of_wide_id : ItemStore
+group_of_wide_id = grouped (record alternative { id = 256 ^ 4 })

@@ -1,6 +1,7 @@
 -- Stores at the limits, whatever their bytes are.
 use Rattle.std.specs.Prelude.{ℕ, ◌≡◌, List, [], ◌∷◌, length}
 use Rattle.hf_base.specs.Entries.{HasNoZero}
+use Rattle.std.specs.List.{AllByRecursion}
 use Rattle.hf_store.specs.Store.{ItemStore}
 use Rattle.hf_store.specs.WorkedStores.{heic, plain, references}
 use Rattle.hf_store.specs.Valid.{Valid}
@@ -28,5 +29,8 @@ BodyIsKept =
     ((bytes : List ℕ) → length bytes ≡ 1073741824 → Valid (picture_of bytes))
     × ((bytes : List ℕ) → length bytes ≡ 1073741825 → Valid (picture_of bytes) → ⊥)
 
+-- 65,535 references of one type, each to the item itself, and one more
 abbrev pub LinksAreKept : Type 0
-LinksAreKept = (ids : List ℕ) → length ids ≡ 65536 → Valid (referring_to ids) → ⊥
+LinksAreKept =
+    ((ids : List ℕ) → AllByRecursion (λ id. id ≡ 1) ids → length ids ≡ 65535 → Valid (referring_to ids))
+    × ((ids : List ℕ) → length ids ≡ 65536 → Valid (referring_to ids) → ⊥)

@@ -3,6 +3,7 @@ pub mod Changes
 pub mod Derived
 pub mod LargeStores
 pub mod Layout
+pub mod LimitStores
 pub mod Lists
 pub mod Picks
 pub mod References
@@ -14,6 +15,7 @@ pub mod Valid
 pub mod WorkedChanges
 pub mod WorkedDerived
 pub mod WorkedFiles
+pub mod WorkedGrids
 pub mod WorkedLinks
 pub mod WorkedPhotograph
 pub mod WorkedStores

@@ -4,8 +4,10 @@
 pub mod broken;
 pub mod changed;
 pub mod derived;
+pub mod grids;
 mod item;
 pub mod laws;
+pub mod limits;
 pub mod linked;
 pub mod plain;
 mod reason;

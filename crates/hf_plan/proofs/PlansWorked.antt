@@ -1,0 +1,18 @@
+-- The plans of worked stores.
+use Rattle.std.proofs.Common.{◌≡◌, true, refl}
+use Rattle.hf_store.specs.WorkedStores.{photograph, every_feature}
+use Rattle.hf_store.proofs.ValidStores.{layout}
+use Rattle.hf_plan.specs.Plan.{sizes_of, IsPlan}
+use Rattle.hf_plan.specs.WorkedPlans.{plan_of_photograph, plan_of_every_feature, long_sizes_of_every_feature}
+
+pub planned_photograph : IsPlan photograph plan_of_photograph
+unfolding layout photograph plan_of_photograph sizes_of
+planned_photograph = record { wide = refl; long = refl; total = refl; starts = refl; sizes = refl }
+
+pub planned_every_feature : IsPlan every_feature plan_of_every_feature
+unfolding layout every_feature plan_of_every_feature sizes_of
+planned_every_feature = record { wide = refl; long = refl; total = refl; starts = refl; sizes = refl }
+
+pub long_sized_every_feature : sizes_of true every_feature ≡ long_sizes_of_every_feature
+unfolding layout every_feature long_sizes_of_every_feature sizes_of
+long_sized_every_feature = refl

@@ -1,0 +1,5 @@
+use Rattle.hf_plan.proofs.OnePlan.{one_plan}
+use Rattle.hf_plan.proofs.laws.one_plan.Goals as goal
+
+pub returns : goal.returns
+returns c = one_plan
