@@ -20,6 +20,7 @@ pub mod OpeningLemmas
 pub mod Paging
 pub mod PlaceLemmas
 pub mod ReadLemmas
+pub mod SomethingDue
 pub mod SortLemmas
 pub mod StoreLemmas
 pub mod TopLemmas
