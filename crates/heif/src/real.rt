@@ -1,6 +1,6 @@
 //! The desk over the system: files by name, a file that is made, and standard output.
 
-ghost use Rattle.heif.specs.Real.{real_outside, real_sound};
+ghost use Rattle.heif.specs.Real.{real_outside, real_reads, real_sound};
 ghost use Rattle.std.specs.Prelude.{◌≡◌, ◌<◌, ◌≤◌, None, false, length, IfOk, IfSome};
 ghost use Rattle.hf_desk.specs.Calls.{FailsOnly, Rose};
 ghost use Rattle.hf_desk.specs.Mark.{Untold};
@@ -97,6 +97,8 @@ impl<'a> RealDesk<'a> {
 
 impl Desk for RealDesk<'_> {
     ghost outside = { real_outside };
+
+    ghost reads = { real_reads };
 
     ghost sound = { real_sound };
 

@@ -56,7 +56,7 @@ denotes_one F s t x y =
     let same : made s.brands s.primary s.items s.groups ≡ made t.brands t.primary t.items t.groups = rw (brands, primary, items, groups) refl in
     same
 
-fault_none : (r : Result Read ReadRefusal) → fault_in r ≡ None → (x : Read) × (r ≡ Ok x)
+pub fault_none : (r : Result Read ReadRefusal) → fault_in r ≡ None → (x : Read) × (r ≡ Ok x)
 fault_none (Ok x) h = (x, refl)
 fault_none (Err e) h = absurd cc
 

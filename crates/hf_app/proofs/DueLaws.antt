@@ -22,7 +22,7 @@ use Rattle.hf_app.specs.declared.outcome.Outcome.{Outcome}
 use Rattle.hf_app.specs.declared.outcome.Outcome.TheVariants.{Done, Unfit, Refused, TooLong}
 use Rattle.hf_app.proofs.DenotesLaws.{denotes_one}
 
-abbrev Stepped : Type 0
+abbrev pub Stepped : Type 0
 Stepped = Result ItemStore (ℕ × Reason)
 
 -- the two edits reach one store
@@ -62,7 +62,7 @@ refused_or_edited file edits n why bytes a b =
     let one = sym a.steps ∙ read ∙ b.steps in
     cc
 
-abbrev made : List ℕ → List ℕ → Due
+abbrev pub made : List ℕ → List ℕ → Due
 made out bytes = record { outcome = Done; makes = Some (out, bytes); says = [] }
 
 one_edit : (file out : List ℕ) (edits : List Edit) (some other : Due) → IsDueOfEdits file out edits some → IsDueOfEdits file out edits other → some ≡ other

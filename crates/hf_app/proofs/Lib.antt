@@ -19,6 +19,7 @@ pub mod LoopLemmas
 pub mod OpeningLemmas
 pub mod PlaceLemmas
 pub mod ReadLemmas
+pub mod SomethingDue
 pub mod SortLemmas
 pub mod StoreLemmas
 pub mod TopLemmas

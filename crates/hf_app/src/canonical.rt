@@ -17,8 +17,7 @@ pub fn canonical_file(alloc: Global, store: &Store<'_>) -> Result<Vec<u8>, NoMem
     ensures denoted { IfOk result (λ bytes. Denotes bytes.items store.now) }
 {
     canonical_file_denotes_its_store();
-    // The store is valid and plain, which its length says.
-    let _count = store.len();
+    store.valid_and_plain();
     let plan = plan(alloc, store)?;
     make(alloc, store, &plan)
 }

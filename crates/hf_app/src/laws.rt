@@ -83,6 +83,11 @@ pub fn one_thing_is_due()
     ensures { (command : Command) (file : List ℕ) (some other : Due) → IsDueOf command file some → IsDueOf command file other → some ≡ other }
 {}
 
+/// Something is due of the input of a command, whatever bytes it has.
+pub fn something_is_due()
+    ensures { (command : Command) (file : List ℕ) → IsBytes file → (d : Due) × IsDueOf command file d }
+{}
+
 /// Two runs whose stores after their edits are equal make equal bytes.
 pub fn equal_stores_make_equal_bytes()
     ensures { (some other : List ℕ) (edits others : List Edit) (bytes more : List ℕ) (a : IsEdited some edits bytes) (b : IsEdited other others more) → a.after ≡ b.after → bytes ≡ more }

@@ -35,10 +35,10 @@ pub const IREF: FourCc = FourCc(*b"iref");
 /// Properties of items: `ItemPropertiesBox` of ISO/IEC 14496-12.
 pub const IPRP: FourCc = FourCc(*b"iprp");
 
-/// The properties themselves: `ItemPropertyContainerBox` of ISO/IEC 23008-12.
+/// The properties in `iprp`: `ItemPropertyContainerBox` of ISO/IEC 23008-12.
 pub const IPCO: FourCc = FourCc(*b"ipco");
 
-/// Which properties an item has: `ItemPropertyAssociationBox` of ISO/IEC 23008-12.
+/// Which item has which of them: `ItemPropertyAssociationBox` of ISO/IEC 23008-12.
 pub const IPMA: FourCc = FourCc(*b"ipma");
 
 /// Groups of items: `GroupsListBox` of ISO/IEC 14496-12.
@@ -46,6 +46,9 @@ pub const GRPL: FourCc = FourCc(*b"grpl");
 
 /// Bytes of items: `ItemDataBox` of ISO/IEC 14496-12.
 pub const IDAT: FourCc = FourCc(*b"idat");
+
+/// Bytes of items behind `meta`: `MediaDataBox` of ISO/IEC 14496-12.
+pub const MDAT: FourCc = FourCc(*b"mdat");
 
 /// Protection of items: `ItemProtectionBox` of ISO/IEC 14496-12.
 pub const IPRO: FourCc = FourCc(*b"ipro");

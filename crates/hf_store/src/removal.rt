@@ -14,7 +14,6 @@ pub fn remove_item(store: &mut Store<'_>, id: u32) -> Result<(), Reason>
     ensures reason { IfErr result (λ reason. why store.old (Remove id) ≡ Some reason) }
     ensures stays { IfErr result (λ reason. store.new ≡ store.old) }
 {
-    let _count = store.len();
     let Some(i) = store.position(id) else {
         return Err(Reason::NoItem);
     };

@@ -62,6 +62,15 @@ impl<'a> Store<'a> {
         }
     }
 
+    /// Does nothing, and says what the type keeps: the store is valid and plain.
+    pub fn valid_and_plain(&self)
+        ensures valid { Valid self.now }
+        ensures plain { IsPlain self.now }
+    {
+        // What the type keeps is known where a field is read.
+        let _ = &self.brands;
+    }
+
     /// The brands of the file.
     pub fn brands(&self) -> Brands<'a>
         ensures value { brands_of result ≡ self.now.brands }

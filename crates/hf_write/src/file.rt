@@ -26,7 +26,7 @@ fn put_meta_front<D: Desk>(store: &Store<'_>, plan: &Plan, desk: &mut D) -> Resu
     requires plan { IsPlan store.now plan.now }
     ensures { Puts (D.outside desk.old) (meta_begin store.now plan.now) result (D.outside desk.new) }
 {
-    let _count = store.len();
+    store.valid_and_plain();
     let ids = plan.wide();
     let id = store.primary();
     put_header(META, body_of(plan.sizes().meta), desk)?;
@@ -53,7 +53,7 @@ fn put_meta<D: Desk>(store: &Store<'_>, plan: &Plan, desk: &mut D) -> Result<(),
     requires plan { IsPlan store.now plan.now }
     ensures { Puts (D.outside desk.old) (box (four "meta") (meta_body own (offset_width plan.now.long) plan.now.total store.now)) result (D.outside desk.new) }
 {
-    let _count = store.len();
+    store.valid_and_plain();
     put_meta_front(store, plan, desk)?;
     put_meta_rest(store, plan, desk)
 }
@@ -66,7 +66,7 @@ pub fn write<D: Desk>(store: &Store<'_>, plan: &Plan, desk: &mut D) -> Result<()
     requires plan { IsPlan store.now plan.now }
     ensures { (file : List ℕ) → Canon store.now file → Puts (D.outside desk.old) file result (D.outside desk.new) }
 {
-    let _count = store.len();
+    store.valid_and_plain();
     put_ftyp(&store.brands(), desk)?;
     put_meta(store, plan, desk)?;
     put_mdat(store, plan, desk)

@@ -14,13 +14,11 @@ ghost use Rattle.hf_store.specs.Seen.{item_of};
 ghost use Rattle.hf_plan.specs.Plan.{IsPlan};
 
 use crate::header::{body_of, put_header};
-use hf_base::{FourCc, be_put};
+use hf_base::be_put;
+use hf_base::kinds::{IINF, INFE};
 use hf_desk::{Desk, WriteFault, put_all};
 use hf_plan::Plan;
 use hf_store::{Item, Store};
-
-/// The type of the box.
-const IINF: FourCc = FourCc(*b"iinf");
 
 /// An `infe` with an id of two bytes, in version 2.
 fn narrow_infe(item: &Item<'_>) -> [u8; 21]
@@ -30,7 +28,7 @@ fn narrow_infe(item: &Item<'_>) -> [u8; 21]
 {
     let mut bytes = [0u8; 21];
     be_put(&mut bytes, 0, 4, 21);
-    bytes[4..8].copy_from_slice(b"infe");
+    bytes[4..8].copy_from_slice(&INFE.0);
     bytes[8] = 2;
     be_put(&mut bytes, 12, 2, item.id as u64);
     bytes[16..20].copy_from_slice(&item.kind.0);
@@ -44,7 +42,7 @@ fn wide_infe(item: &Item<'_>) -> [u8; 23]
 {
     let mut bytes = [0u8; 23];
     be_put(&mut bytes, 0, 4, 23);
-    bytes[4..8].copy_from_slice(b"infe");
+    bytes[4..8].copy_from_slice(&INFE.0);
     bytes[8] = 3;
     be_put(&mut bytes, 12, 4, item.id as u64);
     bytes[18..22].copy_from_slice(&item.kind.0);

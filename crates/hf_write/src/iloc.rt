@@ -14,13 +14,11 @@ ghost use Rattle.hf_plan.specs.Plan.{offset_width, IsPlan};
 ghost use Rattle.hf_write.specs.Entries.{planned_entry};
 
 use crate::header::{body_of, put_header};
-use hf_base::{FourCc, be_put};
+use hf_base::be_put;
+use hf_base::kinds::ILOC;
 use hf_desk::{Desk, WriteFault, put_all};
 use hf_plan::{Plan, located_count};
 use hf_store::Store;
-
-/// The type of the box.
-const ILOC: FourCc = FourCc(*b"iloc");
 
 /// What stands in an entry in front of its extent, with an id of two bytes.
 fn narrow_place(id: u32) -> [u8; 8]
@@ -102,7 +100,7 @@ fn put_entry<D: Desk>(
     requires place { i < length store.now.items }
     ensures { (item : Stated) → slice_get store.now.items i ≡ Some item → Puts (D.outside desk.old) (planned_entry store.now plan.now item) result (D.outside desk.new) }
 {
-    let _count = store.len();
+    store.valid_and_plain();
     let item = store.at(i);
     match plan.start(i) {
         Some(offset) => {

@@ -9,6 +9,7 @@ ghost use Rattle.hf_store.specs.Layout.{iprp_body};
 ghost use Rattle.hf_write.specs.Entries.{empty_bytes};
 
 use hf_base::be_put;
+use hf_base::kinds::{IPCO, IPMA, IPRP};
 use hf_desk::{Desk, WriteFault, put_all};
 use hf_store::Store;
 
@@ -25,11 +26,11 @@ fn empty_iprp(version: u8) -> [u8; 32]
 {
     let mut bytes = [0u8; 32];
     be_put(&mut bytes, 0, 4, 32);
-    bytes[4..8].copy_from_slice(b"iprp");
+    bytes[4..8].copy_from_slice(&IPRP.0);
     be_put(&mut bytes, 8, 4, 8);
-    bytes[12..16].copy_from_slice(b"ipco");
+    bytes[12..16].copy_from_slice(&IPCO.0);
     be_put(&mut bytes, 16, 4, 16);
-    bytes[20..24].copy_from_slice(b"ipma");
+    bytes[20..24].copy_from_slice(&IPMA.0);
     bytes[24] = version;
     bytes
 }
@@ -43,6 +44,6 @@ pub(crate) fn put_iprp<D: Desk>(
     requires creating { (D.outside desk.old).creating ≡ true }
     ensures { Puts (D.outside desk.old) (box (four "iprp") (iprp_body wide store.now)) result (D.outside desk.new) }
 {
-    let _count = store.len();
+    store.valid_and_plain();
     put_all(desk, &empty_iprp(version_of(wide)))
 }

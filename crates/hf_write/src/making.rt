@@ -17,7 +17,7 @@ pub fn make(alloc: Global, store: &Store<'_>, plan: &Plan) -> Result<Vec<u8>, No
     requires { IsPlan store.now plan.now }
     ensures { IfOk result (λ v. Canon store.now v.items) }
 {
-    let _count = store.len();
+    store.valid_and_plain();
     let mut desk = MemoryDesk::new(alloc);
     if desk.create("").is_err() {
         return Err(NoMemory);

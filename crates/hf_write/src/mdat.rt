@@ -11,14 +11,11 @@ ghost use Rattle.hf_plan.specs.Plan.{IsPlan};
 ghost use Rattle.hf_write.specs.Entries.{bytes_of};
 
 use crate::header::{body_of, put_header};
-use hf_base::FourCc;
+use hf_base::kinds::MDAT;
 use hf_desk::{Desk, WriteFault, put_all};
 use hf_pieces::Pieces;
 use hf_plan::Plan;
 use hf_store::Store;
-
-/// The type of the box.
-const MDAT: FourCc = FourCc(*b"mdat");
 
 /// Puts bytes, a piece at a time.
 fn put_pieces<D: Desk>(pieces: &Pieces<'_>, desk: &mut D) -> Result<(), WriteFault>
@@ -52,7 +49,7 @@ pub(crate) fn put_mdat<D: Desk>(
     requires plan { IsPlan store.now plan.now }
     ensures { Puts (D.outside desk.old) (box (four "mdat") (mdat_body own store.now.items)) result (D.outside desk.new) }
 {
-    let _count = store.len();
+    store.valid_and_plain();
     put_header(MDAT, body_of(plan.sizes().mdat), desk)?;
     put_bodies(store, desk)
 }

@@ -7,11 +7,11 @@ use Rattle.hf_store.proofs.Spots.{within_at}
 use Rattle.hf_store.proofs.removal.remove_item.Goals as goal
 
 pub returns-in_default-clause-reason : goal.returns-in_default-clause-reason
-returns-in_default-clause-reason c = no_item c.args.store.now c.args.id c.len-count.ensures.plain c.in_default.ensures.none
+returns-in_default-clause-reason c = no_item c.args.store.now c.args.id c.position.ensures.plain c.in_default.ensures.none
 
 pub returns-then-id-primary-clause-reason : goal.returns-then-id-primary-clause-reason
 returns-then-id-primary-clause-reason c =
-    is_primary c.args.store.now c.args.id c.in-Some.i c.len-count.ensures.plain c.in-Some.ensures.some (omega (arith, c.primary.ensures, c.if-id-primary.true))
+    is_primary c.args.store.now c.args.id c.in-Some.i c.position.ensures.plain c.in-Some.ensures.some (omega (arith, c.primary.ensures, c.if-id-primary.true))
 
 pub remove-requires-clause-place : goal.remove-requires-clause-place
 remove-requires-clause-place c =
@@ -20,11 +20,11 @@ remove-requires-clause-place c =
 pub remove-requires-clause-valid : goal.remove-requires-clause-valid
 remove-requires-clause-valid c =
     let s = c.args.store.now in
-    rw (id_there s c.args.id c.in-Some.i c.in-Some.ensures.some) (valid_without s c.args.id c.len-count.ensures.valid c.len-count.ensures.plain (λ e. absurd (omega (arith, e, c.primary.ensures, c.if-id-primary.false))))
+    rw (id_there s c.args.id c.in-Some.i c.in-Some.ensures.some) (valid_without s c.args.id c.position.ensures.valid c.position.ensures.plain (λ e. absurd (omega (arith, e, c.primary.ensures, c.if-id-primary.false))))
 
 pub returns-clause-free : goal.returns-clause-free
 returns-clause-free c =
-    nothing_against c.args.store.now c.args.id c.in-Some.i c.len-count.ensures.plain c.in-Some.ensures.some (λ e. absurd (omega (arith, e, c.primary.ensures, c.if-id-primary.false)))
+    nothing_against c.args.store.now c.args.id c.in-Some.i c.position.ensures.plain c.in-Some.ensures.some (λ e. absurd (omega (arith, e, c.primary.ensures, c.if-id-primary.false)))
 
 pub returns-clause-removed : goal.returns-clause-removed
 returns-clause-removed c =
