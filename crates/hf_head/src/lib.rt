@@ -5,6 +5,7 @@ mod ftyp;
 mod hdlr;
 pub mod laws;
 mod pitm;
+pub mod worked;
 
 pub use ftyp::{Brands, put_ftyp, read_ftyp};
 pub use hdlr::{put_hdlr, read_hdlr};
