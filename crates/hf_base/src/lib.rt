@@ -8,6 +8,7 @@ pub mod kinds;
 pub mod laws;
 pub mod limits;
 mod number;
+pub mod worked;
 
 pub use fault::{NoMemory, OpenFault, ReadRefusal};
 pub use four::{FourCc, four_at};
