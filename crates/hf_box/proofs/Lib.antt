@@ -8,4 +8,4 @@ pub mod BoxLaws
 pub mod Walking
 pub mod HeadLemmas
 pub mod WalkLaws
-pub mod Worked
+pub mod WorkedFile

@@ -4,4 +4,5 @@ pub mod Head
 pub mod Literals
 pub mod Walk
 pub mod Worked
+pub mod WorkedBoxes
 pub mod Written
