@@ -12,6 +12,7 @@ mod loc;
 mod number;
 mod seen;
 mod series;
+pub mod worked;
 
 pub use fault::{NoMemory, OpenFault, ReadRefusal};
 pub use four::{FourCc, four_at};

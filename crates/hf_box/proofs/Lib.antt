@@ -8,5 +8,5 @@ pub mod BoxLaws
 pub mod Walking
 pub mod HeadLemmas
 pub mod WalkLaws
-pub mod Worked
 pub mod TableLaws
+pub mod WorkedFile

@@ -4,5 +4,6 @@ pub mod Head
 pub mod Literals
 pub mod Walk
 pub mod Worked
+pub mod WorkedBoxes
 pub mod Written
 pub mod Tables

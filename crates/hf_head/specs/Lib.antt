@@ -1,3 +1,4 @@
 pub mod Ftyp
 pub mod Hdlr
 pub mod Pitm
+pub mod Worked

@@ -5,6 +5,7 @@ mod ftyp;
 mod hdlr;
 pub mod laws;
 mod pitm;
+pub mod worked;
 
 pub use ftyp::{Brands, give_ftyp, put_ftyp, read_ftyp};
 pub use hdlr::{give_hdlr, put_hdlr, read_hdlr};

@@ -1,4 +1,4 @@
-use Rattle.hf_box.proofs.Worked.{length-worked_file, walk_at-worked_file, IsWalk-worked_file}
+use Rattle.hf_box.proofs.WorkedFile.{length-worked_file, walk_at-worked_file, IsWalk-worked_file}
 use Rattle.hf_box.proofs.laws.worked_file_rows.Goals as goal
 
 pub returns : goal.returns
