@@ -21,7 +21,8 @@ abbrev pub Writes : Call → Outside → List ℕ → Result (Unit {0}) WriteFau
 Writes ByPut = Puts
 Writes BySay = Says
 
--- Bytes are given to a page that holds some: a front of both, joined, is written, and the page is left with the rest, or after a fault with nothing.
+-- Bytes are given to a page that holds some: a front of both, joined, is written, and the page is left with the rest;
+-- after a fault, which ends the writing of that front, the page is left with nothing.
 pub record Gives (call : Call) (old : Outside) (held bytes : List ℕ) (result : Result (Unit {0}) WriteFault) (new : Outside) (left : List ℕ) : Type 0 where
   pub front : List ℕ
   pub rest : List ℕ
