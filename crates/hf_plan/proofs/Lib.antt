@@ -4,6 +4,7 @@ pub mod Counts
 pub mod Large
 pub mod Lengths
 pub mod LongOffsets
+pub mod NotWritten
 pub mod OneFile
 pub mod OnePlan
 pub mod Places

@@ -7,4 +7,5 @@ pub mod LongOffsets
 pub mod Places
 pub mod Plan
 pub mod Seen
+pub mod Unwritten
 pub mod WorkedPlans

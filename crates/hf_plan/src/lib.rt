@@ -5,6 +5,7 @@ pub mod laws;
 mod planned;
 mod planning;
 mod sizes;
+pub mod unwritten;
 pub mod worked;
 pub mod worked_plans;
 

@@ -1,0 +1,63 @@
+-- Stores with a number that its field cannot say.
+use Rattle.std.proofs.Common.{◌≡◌, ◌<◌, ◌^◌, false, List, length, refl, subst, arith}
+use Rattle.std.specs.List.{AllByRecursion}
+use Rattle.hf_box.specs.Written.{id_width}
+use Rattle.hf_store.specs.Store.{Item}
+use Rattle.hf_store.specs.Layout.{own, is_wide, with_bytes}
+use Rattle.hf_store.specs.BadStores.{minor_of_five_bytes, id_of_five_bytes, group_of_wide_version, group_of_wide_flags, group_of_wide_id, properties_256}
+use Rattle.hf_store.specs.LargeStores.{picture_of, referring_to}
+use Rattle.hf_store.proofs.Finds.{some_has}
+use Rattle.hf_plan.specs.Lay.{IsWrittenExtent}
+use Rattle.hf_plan.specs.Unwritten.{HasNoFile, wide_primary, wide_entity, group_of, ItemsAreCounted, ReferencesAreCounted, EntitiesAreCounted, LengthsFit}
+
+pub no_minor : HasNoFile minor_of_five_bytes
+unfolding minor_of_five_bytes
+no_minor w F lay = let field = lay.numbers.minor in omega arith
+
+pub no_id : HasNoFile id_of_five_bytes
+unfolding id_of_five_bytes is_wide
+no_id w F lay = let field = lay.numbers.items.0.id in omega arith
+
+pub no_primary : HasNoFile wide_primary
+unfolding wide_primary is_wide
+no_primary w F lay = let field = lay.numbers.primary in omega arith
+
+pub no_props : HasNoFile properties_256
+unfolding properties_256
+no_props w F lay = let field = lay.numbers.items.0.props in omega arith
+
+pub no_version : HasNoFile group_of_wide_version
+unfolding group_of_wide_version
+no_version w F lay = let field = lay.numbers.groups.0.version in omega arith
+
+pub no_flags : HasNoFile group_of_wide_flags
+unfolding group_of_wide_flags
+no_flags w F lay = let field = lay.numbers.groups.0.flags in omega arith
+
+pub no_group_id : HasNoFile group_of_wide_id
+unfolding group_of_wide_id
+no_group_id w F lay = let field = lay.numbers.groups.0.id in omega arith
+
+pub no_entity : HasNoFile wide_entity
+unfolding wide_entity
+no_entity w F lay = let field = lay.numbers.groups.0.entities in omega arith
+
+pub items_are_counted : ItemsAreCounted
+items_are_counted s narrow count w F lay =
+    let fits : length s.items < 256 ^ id_width false = subst (λ b. length s.items < 256 ^ id_width b) narrow lay.numbers.count in
+    omega (arith, count, fits)
+
+pub references_are_counted : ReferencesAreCounted
+unfolding referring_to
+references_are_counted ids count w F lay = let field = lay.numbers.items.0.refs.0.0 in omega (arith, count, field)
+
+pub entities_are_counted : EntitiesAreCounted
+unfolding group_of
+entities_are_counted ids count w F lay = let field = lay.numbers.groups.0.count in omega (arith, count, field)
+
+pub lengths_fit : LengthsFit
+unfolding picture_of
+lengths_fit bytes F count lay =
+    let some : with_bytes (picture_of bytes).items ≡ (picture_of bytes).items = rw (some_has bytes (omega (arith, count))) refl in
+    let field = (subst (λ (is : List Item). AllByRecursion (IsWrittenExtent own 4 (length F) (picture_of bytes).items) is) some lay.numbers.extents).0.length in
+    omega (arith, count, field)
