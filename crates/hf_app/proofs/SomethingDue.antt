@@ -70,16 +70,22 @@ due_of_steps file out edits none has (Err (n, reason)) steps =
     (answered (Refused n reason), inr (inl (n, reason, record { store = has.store; denoted = has.denoted; sound = none; steps = steps }, refl)))
 due_of_steps file out edits none has (Ok after) steps =
     let good = keeps_all edits 1 has.store after has.good steps in
-    let file_after = has_canon after good.valid in
-    (made out file_after.0, inr (inr (file_after.0, record {
-      store = has.store;
-      denoted = has.denoted;
-      sound = none;
-      after = after;
-      steps = steps;
-      canonical = file_after.1;
-      again = (canon_denotes after file_after.0 good.valid good.plain file_after.1).0;
-    }, refl)))
+    let file_after = has_canon after good.valid in (
+      made out file_after.0,
+      inr (inr (
+        file_after.0,
+        record {
+          store = has.store;
+          denoted = has.denoted;
+          sound = none;
+          after = after;
+          steps = steps;
+          canonical = file_after.1;
+          again = (canon_denotes after file_after.0 good.valid good.plain file_after.1).0;
+        },
+        refl,
+      )),
+    )
 
 due_of_edits : (file out : List ℕ) (edits : List Edit) → IsBytes file → length file ≤ FILE → (o : Option ReadRefusal) → fault_of file ≡ o → (d : Due) × IsDueOfEdits file out edits d
 due_of_edits file out edits fits small (Some fault) some = (answered (Unfit 0 fault), inl (fault, some, refl))

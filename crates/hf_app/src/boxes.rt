@@ -6,13 +6,13 @@ ghost use Rattle.hf_app.specs.Words.{Boxes};
 ghost use Rattle.hf_app.specs.Due.{IsDueOf};
 ghost use Rattle.hf_app.specs.Answers.{Answers, Ends, ForFile, IsQuiet, HasCause, IsDueOrNoMemory, Stays};
 
+use crate::input::read_input;
 use crate::outcome::Outcome;
 use crate::rows::say_rows;
 use crate::stopping::stopped;
 use hf_base::OpenFault;
-use hf_base::limits::FILE;
 use hf_box::walk;
-use hf_desk::{Desk, read_all};
+use hf_desk::Desk;
 use std::alloc::Global;
 
 /// Says the rows of the file with this name.
@@ -28,7 +28,7 @@ pub fn say_boxes<D: Desk>(alloc: Global, name: &str, desk: &mut D) -> Outcome
     ensures steady { (D.outside desk.old).steady ≡ true
         → ForFile (D.outside desk.old) name.now (λ file. IsDueOrNoMemory (IsDueOf (Boxes name.now) file) result) }
 {
-    let file = match read_all(alloc, desk, name, FILE) {
+    let file = match read_input(alloc, name, desk) {
         Ok(file) => file,
         Err(why) => return stopped(0, why),
     };

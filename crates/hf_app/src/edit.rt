@@ -10,11 +10,11 @@ ghost use Rattle.hf_app.specs.Due.{IsDueOf};
 ghost use Rattle.hf_app.specs.Answers.{Answers, Ends, ForFile, IsQuiet, HasCause, IsDueOrNoMemory, Stays};
 
 use crate::editing::edited;
+use crate::input::read_input;
 use crate::outcome::Outcome;
 use crate::stopping::{refused, stopped};
 use crate::words::EditWord;
-use hf_base::limits::FILE;
-use hf_desk::{Desk, make_file, read_all};
+use hf_desk::{Desk, make_file};
 use std::alloc::Global;
 
 /// Makes the file `out`: the canonical file of the store that the input denotes, after these edits
@@ -38,7 +38,7 @@ pub fn edit_file<D: Desk>(
     ensures steady { (D.outside desk.old).steady ≡ true → LacksFile (D.outside desk.old) out.now
         → ForFile (D.outside desk.old) input.now (λ file. IsDueOrNoMemory (IsDueOf (EditFile input.now out.now (map edit_of edits.now)) file) result) }
 {
-    let file = match read_all(alloc, desk, input, FILE) {
+    let file = match read_input(alloc, input, desk) {
         Ok(file) => file,
         Err(why) => return stopped(0, why),
     };

@@ -9,6 +9,7 @@ mod editing;
 mod fields;
 mod iinf;
 mod iloc;
+mod input;
 mod items;
 pub mod laws;
 mod level;
