@@ -36,6 +36,15 @@ def rounds(*commands, before=lambda: None):
     return times
 
 
+def python(program):
+    """The words that run a program in Python, with as little around it as there can be."""
+    return [sys.executable, "-S", "-E", "-c", program]
+
+
+def above(some, others):
+    return [a - b for a, b in zip(some, others)]
+
+
 def ratio(some, others):
     return statistics.median(a / b for a, b in zip(some, others))
 
@@ -60,6 +69,16 @@ def fill(name, head, size):
         while left > 0:
             file.write(chunk[: min(left, len(chunk))])
             left -= len(chunk)
+
+
+def without(name):
+    """What removes a file, so that each command makes it anew."""
+
+    def free():
+        if os.path.exists(name):
+            os.remove(name)
+
+    return free
 
 
 def end():

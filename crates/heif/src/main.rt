@@ -2,16 +2,25 @@
 #![tactic(auto)]
 
 mod real;
+mod words;
 
 use crate::real::RealDesk;
+use crate::words::words_of;
 use hf_app::{Outcome, line_of, run, status};
+use std::fs::File;
+use std::io;
 use std::io::ErrorKind;
+use std::os::fd::AsRawFd;
 use std::process::ExitCode;
-use std::{env, io};
 
-/// The words of the command line, without the program's name.
-fn words_of(rt: &HostRuntime) -> io::Result<Vec<String>> {
-    Ok(env::args(rt)?.skip(1).collect(rt.alloc())?)
+/// An empty file, where it gets the number of a standard stream that is closed. It is opened for
+/// reading alone, so that writing to that stream fails.
+fn stand_in(rt: &HostRuntime) -> Option<File> {
+    let file = File::open(rt, "/dev/null").ok()?;
+    if file.as_raw_fd() > 2 {
+        return None;
+    }
+    Some(file)
 }
 
 /// Ends before any command is read.
@@ -34,6 +43,8 @@ fn report(rt: &HostRuntime, outcome: &Outcome) {
 }
 
 fn main(rt: HostRuntime) -> ExitCode {
+    // Otherwise a file that is opened later takes that number, and the line of a fault is written into it.
+    let _streams = [stand_in(&rt), stand_in(&rt), stand_in(&rt)];
     let words = match words_of(&rt) {
         Ok(words) => words,
         Err(why) => return refused(&rt, why),

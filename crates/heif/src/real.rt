@@ -8,8 +8,37 @@ ghost use Rattle.hf_desk.specs.Mark.{Untold};
 use hf_desk::{Desk, Failed};
 use std::fs::File;
 use std::io;
-use std::io::Write;
+use std::io::{ErrorKind, Write};
 use std::os::unix::fs::FileExt;
+
+/// How often a call that a signal interrupted is tried again before it counts as failed.
+pub const RETRIES: u32 = 100;
+
+/// Reads from a place, and tries again where a signal interrupted it.
+pub fn read_again<F: FileExt>(file: &F, buf: &mut [u8], at: u64) -> io::Result<usize>
+    ensures { IfOk result (λ n. n ≤ length buf.old) }
+{
+    for _ in 0..RETRIES {
+        match file.read_at(buf, at) {
+            Err(why) if why.kind() == ErrorKind::Interrupted => {}
+            read => return read,
+        }
+    }
+    file.read_at(buf, at)
+}
+
+/// Writes what it takes of a piece, and tries again where a signal interrupted it.
+pub fn write_again<W: Write>(out: &mut W, piece: &[u8]) -> io::Result<usize>
+    ensures { IfOk result (λ n. n ≤ length piece.now) }
+{
+    for _ in 0..RETRIES {
+        match out.write(piece) {
+            Err(why) if why.kind() == ErrorKind::Interrupted => {}
+            written => return written,
+        }
+    }
+    out.write(piece)
+}
 
 /// How many bytes of a piece a write took. One that takes nothing of a piece that has something
 /// failed too.
@@ -82,11 +111,11 @@ impl<'a> RealDesk<'a> {
     {
         if let Some(last) = &self.last {
             if last.name.as_str() == name {
-                return last.file.read_at(buf, at);
+                return read_again(&last.file, buf, at);
             }
         }
         let file = File::open(self.rt, name)?;
-        let count = file.read_at(buf, at)?;
+        let count = read_again(&file, buf, at)?;
         // Where memory is refused, the next read opens it anew.
         if let Ok(name) = String::from_str(self.rt.alloc(), name) {
             self.last = Some(Opened { name, file });
@@ -122,7 +151,7 @@ impl Desk for RealDesk<'_> {
 
     fn put(&mut self, piece: &[u8]) -> Result<usize, Failed> {
         if let Some(file) = &mut self.made {
-            if let Some(count) = taken(file.write(piece), piece) {
+            if let Some(count) = taken(write_again(file, piece), piece) {
                 return Ok(count);
             }
         }
@@ -130,7 +159,8 @@ impl Desk for RealDesk<'_> {
     }
 
     fn say(&mut self, piece: &[u8]) -> Result<usize, Failed> {
-        match taken(io::writer(self.rt).write(piece), piece) {
+        let mut out = io::writer(self.rt);
+        match taken(write_again(&mut out, piece), piece) {
             Some(count) => Ok(count),
             None => Err(self.write_failed()),
         }

@@ -1,7 +1,11 @@
 use super::*;
+use crate::real::{RETRIES, read_again, write_again};
 use hf_desk::{Desk, MemoryDesk, ReadStop, put_all, read_all};
 use std::alloc::Global;
+use std::cell::Cell;
 use std::fs;
+use std::io::Write;
+use std::os::unix::fs::FileExt;
 use std::test::Fail;
 
 /// A file of one image of three bytes, a line for each box.
@@ -39,6 +43,70 @@ fn a_file_is_made_and_read_back(rt: HostRuntime) -> Result<(), Fail> {
     );
     fs::remove_file(&rt, "made")?;
     Ok(())
+}
+
+/// A file of zeros whose first calls are interrupted: so many.
+#[derive(Drop)]
+struct InterruptedFile {
+    left: Cell<u32>,
+}
+
+impl InterruptedFile {
+    fn next(&self) -> io::Result<()> {
+        let left = self.left.get();
+        if left == 0 {
+            return Ok(());
+        }
+        self.left.set(left - 1);
+        Err(io::Error::from(ErrorKind::Interrupted))
+    }
+}
+
+impl FileExt for InterruptedFile {
+    fn read_at(&self, buf: &mut [u8], _offset: u64) -> io::Result<usize> {
+        self.next()?;
+        Ok(buf.len())
+    }
+
+    fn write_at(&self, buf: &[u8], _offset: u64) -> io::Result<usize> {
+        self.next()?;
+        Ok(buf.len())
+    }
+}
+
+impl Write for InterruptedFile {
+    fn write(&mut self, buf: &[u8]) -> io::Result<usize> {
+        self.next()?;
+        Ok(buf.len())
+    }
+
+    fn flush(&mut self) -> io::Result<()> {
+        Ok(())
+    }
+}
+
+fn interrupted(times: u32) -> InterruptedFile {
+    InterruptedFile {
+        left: Cell::new(times),
+    }
+}
+
+#[test]
+fn an_interrupted_call_is_tried_again(rt: HostRuntime) {
+    let mut buf = [0u8; 3];
+    let mut file = interrupted(RETRIES);
+    assert_eq!(rt; read_again(&file, &mut buf, 0).ok(), Some(3));
+    file.left.set(RETRIES);
+    assert_eq!(rt; write_again(&mut file, b"abc").ok(), Some(3));
+}
+
+#[test]
+fn a_call_that_stays_interrupted_fails(rt: HostRuntime) {
+    let mut buf = [0u8; 3];
+    let mut file = interrupted(RETRIES + 1);
+    assert!(rt; read_again(&file, &mut buf, 0).is_err());
+    file.left.set(RETRIES + 1);
+    assert!(rt; write_again(&mut file, b"abc").is_err());
 }
 
 /// Why the front of `FILE` with this many bytes is refused.
