@@ -8,7 +8,7 @@ use Rattle.hf_store.specs.BadStores.{minor_of_five_bytes, id_of_five_bytes, grou
 use Rattle.hf_store.specs.LargeStores.{picture_of, referring_to}
 use Rattle.hf_store.proofs.Finds.{some_has}
 use Rattle.hf_plan.specs.Lay.{IsWrittenExtent}
-use Rattle.hf_plan.specs.Unwritten.{HasNoFile, wide_primary, wide_entity, group_of, ItemsAreCounted, ReferencesAreCounted, EntitiesAreCounted, LengthsFit}
+use Rattle.hf_plan.specs.Unwritten.{HasNoFile, wide_primary, wide_reference, wide_entity, group_of, ItemsAreCounted, ReferencesAreCounted, EntitiesAreCounted, LengthsFit}
 
 pub no_minor : HasNoFile minor_of_five_bytes
 unfolding minor_of_five_bytes
@@ -41,6 +41,10 @@ no_group_id w F lay = let field = lay.numbers.groups.0.id in omega arith
 pub no_entity : HasNoFile wide_entity
 unfolding wide_entity
 no_entity w F lay = let field = lay.numbers.groups.0.entities in omega arith
+
+pub no_reference : HasNoFile wide_reference
+unfolding wide_reference referring_to is_wide
+no_reference w F lay = let field = lay.numbers.items.0.refs.0.1.0 in omega (arith, field)
 
 pub items_are_counted : ItemsAreCounted
 items_are_counted s narrow count w F lay =

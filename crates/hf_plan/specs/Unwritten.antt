@@ -15,6 +15,10 @@ HasNoFile s = (w : ℕ) (F : List ℕ) → Lay s w F → ⊥
 unfoldable pub wide_primary : ItemStore
 wide_primary = record (only (plain 1 "hvc1" [])) { primary = 256 ^ 2 }
 
+-- a reference to an id that takes four bytes, where ids take two
+unfoldable pub wide_reference : ItemStore
+wide_reference = referring_to (256 ^ 2 ∷ [])
+
 -- a group with an entity that takes five bytes
 unfoldable pub wide_entity : ItemStore
 wide_entity = grouped (record alternative { entities = 256 ^ 4 ∷ [] })

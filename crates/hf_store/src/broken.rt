@@ -13,7 +13,7 @@ pub fn bad_brands_are_refused()
     ensures not_minor_of_five_bytes { Valid minor_of_five_bytes → ⊥ }
 {}
 
-/// Stores whose ids do not rise from 1, or whose primary is no item.
+/// Stores whose ids do not rise from 1 or take more than four bytes, or whose primary is no item.
 pub fn bad_ids_are_refused()
     ensures not_zero_id { Valid zero_id → ⊥ }
     ensures not_ids_of_one { Valid ids_of_one → ⊥ }
