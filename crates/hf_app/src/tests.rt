@@ -266,6 +266,102 @@ fn the_one_canonical_file_is_made(rt: HostRuntime) -> Result<(), Fail> {
     Ok(())
 }
 
+/// How many bytes an item of the large file has.
+fn large_size(id: u16) -> u32 {
+    if id == 1 { 70_000 } else { 12 }
+}
+
+/// Puts the entries of `iinf` of the items 1 to 3,000, without one.
+fn put_infes(file: &mut Vec<u8>, left_out: u16) -> Result<(), Fail> {
+    for id in 1..3001u16 {
+        if id != left_out {
+            file.extend_from_slice(&FILE[97..109])?;
+            file.extend_from_slice(&id.to_be_bytes())?;
+            file.extend_from_slice(&FILE[111..118])?;
+        }
+    }
+    Ok(())
+}
+
+/// Puts the entries of `iloc` of the same items, whose bytes begin at a place.
+fn put_entries(file: &mut Vec<u8>, first: u32, left_out: u16) -> Result<(), Fail> {
+    let mut offset = first;
+    for id in 1..3001u16 {
+        if id != left_out {
+            file.extend_from_slice(&id.to_be_bytes())?;
+            file.extend_from_slice(&FILE[168..174])?;
+            file.extend_from_slice(&offset.to_be_bytes())?;
+            file.extend_from_slice(&large_size(id).to_be_bytes())?;
+            offset = offset.saturating_add(large_size(id));
+        }
+    }
+    Ok(())
+}
+
+/// Puts the bytes of the same items.
+fn put_bodies(file: &mut Vec<u8>, left_out: u16) -> Result<(), Fail> {
+    for id in 1..3001u16 {
+        if id != left_out {
+            for _ in 0..large_size(id) {
+                file.push((id % 251) as u8)?;
+            }
+        }
+    }
+    Ok(())
+}
+
+/// A plain file of the items 1 to 3,000 in canonical form, the first of 70,000 bytes and each other
+/// one of 12; one of 12 is left out if there are 2,999. The boxes that do not grow are those of `FILE`.
+fn large_file(alloc: Global, count: u16, left_out: u16) -> Result<Vec<u8>, Fail> {
+    let n = u32::from(count);
+    let mut file = Vec::from_slice(alloc, &FILE[..24])?;
+    file.extend_from_slice(&(121 + 37 * n).to_be_bytes())?;
+    file.extend_from_slice(&FILE[28..83])?;
+    file.extend_from_slice(&(14 + 21 * n).to_be_bytes())?;
+    file.extend_from_slice(&FILE[87..95])?;
+    file.extend_from_slice(&count.to_be_bytes())?;
+    put_infes(&mut file, left_out)?;
+    file.extend_from_slice(&FILE[118..150])?;
+    file.extend_from_slice(&(16 + 16 * n).to_be_bytes())?;
+    file.extend_from_slice(&FILE[154..164])?;
+    file.extend_from_slice(&count.to_be_bytes())?;
+    put_entries(&mut file, 153 + 37 * n, left_out)?;
+    file.extend_from_slice(&(69_996 + 12 * n).to_be_bytes())?;
+    file.extend_from_slice(b"mdat")?;
+    put_bodies(&mut file, left_out)?;
+    Ok(file)
+}
+
+// 217,141 bytes: want of memory is the one answer that no clause ties to a cause.
+#[test]
+fn the_boxes_of_a_large_file_are_said(rt: HostRuntime) -> Result<(), Fail> {
+    let rows =
+        "0 ftyp 24\n24 meta 111121\n  36 hdlr 33\n  69 pitm 14\n  83 iinf 63014\n  63097 iprp 32\n  63129 iloc 48016\n111145 mdat 105996\n";
+    let mut desk = MemoryDesk::new(rt.alloc());
+    desk.add("large", &large_file(rt.alloc(), 3000, 0)?)?;
+    let words = words_of(rt.alloc(), &["boxes", "large"])?;
+    assert_eq!(rt; run(rt.alloc(), &words, &mut desk), Outcome::Done);
+    assert_eq!(rt; desk.said(), rows.as_bytes());
+    Ok(())
+}
+
+#[test]
+fn a_large_file_is_edited(rt: HostRuntime) -> Result<(), Fail> {
+    let cases: [(&[&str], u16, u16); 2] = [
+        (&["edit", "large", "b"], 3000, 0),
+        (&["edit", "large", "b", "remove", "2"], 2999, 2),
+    ];
+    for (words, count, left_out) in &cases {
+        let mut desk = MemoryDesk::new(rt.alloc());
+        desk.add("large", &large_file(rt.alloc(), 3000, 0)?)?;
+        let words = words_of(rt.alloc(), words)?;
+        let made = large_file(rt.alloc(), *count, *left_out)?;
+        assert_eq!(rt; run(rt.alloc(), &words, &mut desk), Outcome::Done);
+        assert!(rt; desk.made() == Some(made.as_slice()));
+    }
+    Ok(())
+}
+
 #[test]
 fn a_made_file_breaks_off_where_a_write_fails(rt: HostRuntime) -> Result<(), Fail> {
     let words = words_of(rt.alloc(), &["edit", "file", "b"])?;

@@ -1,4 +1,5 @@
 use super::*;
+use std::alloc::Global;
 use std::test::Fail;
 
 #[test]
@@ -67,5 +68,55 @@ fn bytes_are_counted(rt: HostRuntime) -> Result<(), Fail> {
     say_all(&mut desk, b"123")?;
     assert_eq!(rt; desk.made_len(), 5);
     assert_eq!(rt; desk.said_len(), 3);
+    Ok(())
+}
+
+#[test]
+fn no_more_is_read_than_one_byte_behind_the_limit(rt: HostRuntime) -> Result<(), Fail> {
+    let alloc = rt.alloc();
+    let mut desk = MemoryDesk::new(alloc);
+    desk.add("seven", b"abcdefg")?;
+    assert_eq!(rt;
+        read_all(alloc, &mut desk, "seven", 4).err(),
+        Some(ReadStop::TooLong)
+    );
+    assert_eq!(rt; desk.given(), 5);
+    assert_eq!(rt; desk.reach(), 5);
+    Ok(())
+}
+
+/// So many bytes, which differ from their neighbours.
+fn bytes_of(alloc: Global, count: u32) -> Result<Vec<u8>, Fail> {
+    let mut bytes = Vec::new(alloc);
+    for i in 0..count {
+        bytes.push((i % 251) as u8)?;
+    }
+    Ok(bytes)
+}
+
+// The first piece of a file is one of 2^16 bytes, and each other one of 2^20.
+#[test]
+fn files_of_several_pieces_are_read_whole(rt: HostRuntime) -> Result<(), Fail> {
+    let alloc = rt.alloc();
+    for count in [65_537, 1_200_000] {
+        let bytes = bytes_of(alloc, count)?;
+        let mut desk = MemoryDesk::new(alloc);
+        desk.add("large", &bytes)?;
+        let read = read_all(alloc, &mut desk, "large", 1 << 30)?;
+        assert!(rt; read.as_slice() == bytes.as_slice());
+    }
+    Ok(())
+}
+
+#[test]
+fn a_file_with_a_long_name_is_made(rt: HostRuntime) -> Result<(), Fail> {
+    let alloc = rt.alloc();
+    let mut name = String::new(alloc);
+    for _ in 0..30 {
+        name.push_str("0123456789")?;
+    }
+    let mut desk = MemoryDesk::new(alloc);
+    make_file(&mut desk, &name, b"abc")?;
+    assert_eq!(rt; desk.made(), Some(b"abc".as_slice()));
     Ok(())
 }
