@@ -1,0 +1,9 @@
+//! Item information: what a file says of its items, and their entries as they are written.
+#![tactic(auto)]
+
+mod id;
+mod infe;
+pub mod laws;
+mod text;
+
+pub use infe::Info;
