@@ -18,6 +18,10 @@ use Rattle.hf_info.specs.Infe.{Info, IsInfe, infe_at, infe_box}
 abbrev pub info_ids : List Info → List ℕ
 info_ids infos = map (λ (i : Info). i.id) infos
 
+-- these ids are those of the entries
+abbrev pub AreSeen : List ℕ → List Info → Type 0
+AreSeen ids infos = (id : ℕ) → has_id id ids ≡ has_id id (info_ids infos)
+
 -- the box says this of its item
 abbrev pub IsInfeBox : BoxAt → Info → Type 0
 IsInfeBox b info = IsInfe b.body info

@@ -1,5 +1,5 @@
 -- `infe`: ItemInfoEntry of ISO/IEC 14496-12, versions 2 and 3.
-use Rattle.std.specs.Prelude.{◌≡◌, ◌≢◌, ◌⊎◌, ◌<◌, ◌^◌, ◌%◌, ℕ, Bool, not, List, [], ◌++◌, length, map, ◌==◌, Result, Ok, if◌then◌else◌}
+use Rattle.std.specs.Prelude.{◌≡◌, ◌≢◌, ◌⊎◌, ◌<◌, ◌^◌, ◌%◌, ◌+◌, ℕ, Bool, not, List, [], ◌++◌, length, map, ◌==◌, Result, Ok, if◌then◌else◌}
 use Rattle.hf_base.specs.Number.{num}
 use Rattle.hf_base.specs.Reading.{◌>>=◌, front, front_four, front_full, full}
 use Rattle.hf_base.specs.Entries.{HasNoZero, IsIdWidth, id_width_at, refuse_if}
@@ -113,6 +113,14 @@ infe_at at body = do
 abbrev pub infe_version : Bool → ℕ
 infe_version wide = if wide then 3 else 2
 
+-- the strings of a `mime` behind its name
+abbrev pub content_text : Info → List ℕ
+content_text info = if is_kind info.kind MIME then zero_ended info.content ++ zero_ended_if_any info.encoding else []
+
+-- the URI of a `uri ` behind its name
+abbrev pub uri_text : Info → List ℕ
+uri_text info = if is_kind info.kind URI then zero_ended info.uri else []
+
 -- flag 1 is the hidden mark
 unfoldable pub infe_body : Bool → Info → List ℕ
 infe_body wide info =
@@ -121,8 +129,14 @@ infe_body wide info =
     ++ num 0 2  -- item_protection_index
     ++ info.kind.0  -- item_type
     ++ zero_ended info.name  -- item_name
-    ++ (if is_kind info.kind MIME then zero_ended info.content ++ zero_ended_if_any info.encoding else [])  -- content_type, content_encoding
-    ++ (if is_kind info.kind URI then zero_ended info.uri else [])  -- item_uri_type
+    ++ content_text info  -- content_type, content_encoding
+    ++ uri_text info  -- item_uri_type
 
 abbrev pub infe_box : Bool → Info → List ℕ
 infe_box wide info = box INFE (infe_body wide info)
+
+-- the entry can be written with ids of this width
+pub record IsWritable (wide : Bool) (info : Info) : Type 0 where
+  pub good : IsGoodInfo info
+  pub id_fits : info.id < 256 ^ id_width wide
+  pub size : 16 + length (infe_body wide info) < 256 ^ 8

@@ -2,8 +2,10 @@
 #![tactic(auto)]
 
 mod id;
+mod iinf;
 mod infe;
 pub mod laws;
 mod text;
 
+pub use iinf::read_iinf;
 pub use infe::Info;
