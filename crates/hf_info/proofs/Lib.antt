@@ -4,3 +4,4 @@ pub mod InfeWritten
 pub mod IinfLemmas
 pub mod ReadLemmas
 pub mod IinfWritten
+pub mod PutLemmas

@@ -135,6 +135,16 @@ infe_body wide info =
 abbrev pub infe_box : Bool → Info → List ℕ
 infe_box wide info = box INFE (infe_body wide info)
 
+-- the header of a box of this size, and the fields in front of the strings
+unfoldable pub infe_front : Bool → ℕ → Info → List ℕ
+infe_front wide size info =
+    num size 4
+    ++ INFE.0
+    ++ full (infe_version wide) (bit info.hidden)
+    ++ num info.id (id_width wide)  -- item_ID
+    ++ num 0 2  -- item_protection_index
+    ++ info.kind.0  -- item_type
+
 -- the entry can be written with ids of this width
 pub record IsWritable (wide : Bool) (info : Info) : Type 0 where
   pub good : IsGoodInfo info

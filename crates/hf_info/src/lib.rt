@@ -5,7 +5,9 @@ mod id;
 mod iinf;
 mod infe;
 pub mod laws;
+mod put;
 mod text;
 
 pub use iinf::read_iinf;
 pub use infe::Info;
+pub use put::{give_infe, infe_size, put_infe};
