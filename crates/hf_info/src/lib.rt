@@ -7,6 +7,7 @@ mod infe;
 pub mod laws;
 mod put;
 mod text;
+pub mod worked;
 
 pub use iinf::read_iinf;
 pub use infe::Info;
