@@ -1,0 +1,18 @@
+use Rattle.std.proofs.Common.{refl}
+use Rattle.hf_base.specs.Number.{number}
+use Rattle.hf_base.specs.Reading.{front, front_four, front_full}
+use Rattle.hf_box.specs.Framing.{cut, box_at, frames_within}
+use Rattle.hf_box.specs.Tables.{boxes_from}
+use Rattle.hf_info.specs.Infe.{infe_at}
+use Rattle.hf_info.specs.Iinf.{with_infe, iinf_at}
+use Rattle.hf_info.proofs.worked.entries_are_read.Goals as goal
+
+pub returns : goal.returns
+unfolding number front front_four front_full cut box_at frames_within boxes_from infe_at with_infe iinf_at
+returns c = record {
+  one = refl;
+  version_1 = refl;
+  version_3 = refl;
+  both_versions = refl;
+  none = refl;
+}
