@@ -1,0 +1,2 @@
+pub mod Iloc
+pub mod Views
