@@ -1,6 +1,6 @@
 //! The parts of an entry of `iloc` (ItemLocationBox of ISO/IEC 14496-12).
 
-ghost use Rattle.std.specs.Prelude.{◌≡◌, ◌≤◌, length, IfOk};
+ghost use Rattle.std.specs.Prelude.{◌≡◌, ◌≤◌, ◌+◌, ◌*◌, length, IfOk};
 ghost use Rattle.hf_base.specs.Reading.{Reads, Gives, times};
 ghost use Rattle.hf_loc.specs.Iloc.{index_at, fields_at, extent_at};
 ghost use Rattle.hf_loc.specs.Views.{width_of, widths_in, fields_in};
@@ -84,9 +84,10 @@ fn read_extent<'a>(
     ))
 }
 
-/// How many of so many extents the bytes can hold.
-fn held(widths: &Widths, count: u16, len: usize) -> usize
-    ensures { result ≤ count }
+/// How many of so many extents `len` bytes can hold.
+fn room(widths: &Widths, count: u16, len: usize) -> usize
+    ensures wanted { result ≤ count }
+    ensures held { result * (width_of widths.now.index + width_of widths.now.offset + width_of widths.now.length) ≤ len }
 {
     let size = widths.index.len() + widths.offset.len() + widths.length.len();
     if size == 0 {
@@ -106,7 +107,7 @@ pub fn read_extents<'a>(
     ensures exact { Gives (λ x. (x.0, x.1.now)) result (times (extent_at short (widths_in widths.now)) count bytes.now) }
     ensures count { IfOk result (λ x. length x.0 ≡ count) }
 {
-    let mut extents = Extents::with_capacity(alloc, held(widths, count, bytes.len()))?;
+    let mut extents = Extents::with_capacity(alloc, room(widths, count, bytes.len()))?;
     let mut rest = bytes;
     for _ in 0..count {
         let (extent, after) = read_extent(widths, rest, short)?;

@@ -1,6 +1,6 @@
 //! `iloc`: ItemLocationBox of ISO/IEC 14496-12.
 
-ghost use Rattle.std.specs.Prelude.{◌≡◌, ◌≤◌, List, [], IfOk};
+ghost use Rattle.std.specs.Prelude.{◌≡◌, ◌≤◌, ◌*◌, List, [], IfOk};
 ghost use Rattle.hf_base.specs.Entries.{entries_from};
 ghost use Rattle.hf_base.specs.Reading.{Reads, Gives, MatchOpen};
 ghost use Rattle.hf_base.specs.declared.limits.TheConstants.{ROWS};
@@ -37,6 +37,15 @@ fn read_count<'a>(body: &'a [u8], at: u64) -> Result<(Widths, u32, &'a [u8]), Re
     Ok((widths, count, rest))
 }
 
+/// How many of so many entries `len` bytes and a table can hold.
+fn room(count: u32, len: usize) -> usize
+    ensures wanted { result ≤ count }
+    ensures held { result * LEAST_ENTRY ≤ len }
+    ensures few { result ≤ ROWS }
+{
+    (count as usize).min(len / LEAST_ENTRY).min(ROWS)
+}
+
 /// So many entries, and the bytes behind them.
 fn read_entries<'a>(
     alloc: Global,
@@ -47,8 +56,7 @@ fn read_entries<'a>(
 ) -> Result<(Vec<Loc>, &'a [u8]), OpenFault>
     ensures { Gives (λ x. (x.0.items, x.1.now)) result (entries_from (entry_at ROWS at (widths_in widths.now)) [] count bytes.now) }
 {
-    let room = (count as usize).min(bytes.len() / LEAST_ENTRY).min(ROWS);
-    let mut table = Table::with_capacity(alloc, room)?;
+    let mut table = Table::with_capacity(alloc, room(count, bytes.len()))?;
     let mut rest = bytes;
     for _ in 0..count {
         let (loc, after) = read_loc(alloc, table.rows, widths, rest, at)?;
