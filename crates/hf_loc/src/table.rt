@@ -1,6 +1,6 @@
 //! The entries of an `iloc` that were read (ItemLocationBox of ISO/IEC 14496-12).
 
-ghost use Rattle.std.specs.Prelude.{◌≡◌, ◌≤◌, ◌+◌, [], ◌∷◌, ◌++◌, length, IfOk, OnOk};
+ghost use Rattle.std.specs.Prelude.{◌≡◌, ◌≤◌, ◌+◌, [], ◌∷◌, ◌++◌, length, vec_capacity, IfOk, OnOk};
 ghost use Rattle.hf_base.specs.Entries.{has_id, refuse_if};
 ghost use Rattle.hf_base.specs.Reading.{Gives};
 ghost use Rattle.hf_base.specs.declared.fault.ReadRefusal.TheVariants.{DoubleLocation};
@@ -31,6 +31,7 @@ impl Table {
     pub fn with_capacity(alloc: Global, capacity: usize) -> Result<Table, NoMemory>
         ensures empty { IfOk result (λ t. t.locs.items ≡ []) }
         ensures table { IfOk result (λ t. IsTable t) }
+        ensures room { IfOk result (λ t. vec_capacity t.locs ≡ capacity) }
     {
         Ok(Table {
             locs: Vec::with_capacity(alloc, capacity)?,
