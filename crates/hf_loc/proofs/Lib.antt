@@ -1,0 +1,4 @@
+pub mod FrontLemmas
+pub mod IlocLemmas
+pub mod LoopLemmas
+pub mod WrittenLemmas

@@ -1,0 +1,3 @@
+pub mod Iloc
+pub mod Views
+pub mod Worked
