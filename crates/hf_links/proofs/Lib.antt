@@ -1,0 +1,3 @@
+pub mod GrplLemmas
+pub mod IrefLemmas
+pub mod WrittenBoxes
