@@ -1,16 +1,19 @@
 -- Groups are read as they stand, and as they are written.
-use Rattle.std.proofs.Common.{◌≡◌, ℕ, ◌+◌, ◌≤◌, ◌<◌, ◌^◌, false, List, [], ◌∷◌, ◌++◌, length, ltb, Result, Ok, refl, sym, ap, subst, ◌∙◌, append_assoc, arith}
-use Rattle.std.specs.Prelude.{IsTrue}
+use Rattle.std.proofs.Common.{◌≡◌, ℕ, ◌+◌, ◌≤◌, ◌<◌, ◌^◌, false, List, [], ◌∷◌, ◌++◌, length, ltb, eqb, ◌||◌, true, Result, Ok, Err, refl, sym, ap, subst, ◌∙◌, append_assoc, arith, inl, inr}
+use Rattle.std.specs.Prelude.{IsTrue, IfOk}
+use Rattle.std.specs.Global.{Vec}
 use Rattle.std.specs.List.{AllByRecursion, AllZip, flat_map}
-use Rattle.std.proofs.lemmas.Bool.{ltb-false, le-ltb}
+use Rattle.std.proofs.lemmas.Bool.{ltb-false, le-ltb, cases_Bool}
 use Rattle.std.proofs.lemmas.List.Sums.{sum_by-cons}
 use Rattle.hf_base.specs.declared.four.FourCc.{FourCc}
 use Rattle.hf_base.specs.declared.fault.ReadRefusal.{ReadRefusal}
 use Rattle.hf_base.specs.declared.fault.ReadRefusal.TheVariants.{BadRecord, TooLarge, DoubleGroup}
+use Rattle.hf_base.specs.declared.fault.OpenFault.{OpenFault}
+use Rattle.hf_base.specs.declared.fault.OpenFault.TheVariants as errors
 use Rattle.hf_base.specs.declared.kinds.TheConstants.{GRPL}
 use Rattle.hf_base.specs.declared.limits.TheConstants.{BOXES, ROWS}
 use Rattle.hf_base.specs.Number.{IsBytes, num}
-use Rattle.hf_base.specs.Reading.{◌>>=◌, front, front_full, full, times}
+use Rattle.hf_base.specs.Reading.{◌>>=◌, front, front_full, full, times, Fails, Gives, MatchOpen}
 use Rattle.hf_base.specs.ReadingLaws.{bind_ok, ok_is, front_takes, front_again, full_takes, full_again}
 use Rattle.hf_base.specs.Entries.{IsNum, has_id, are_distinct, refuse_if}
 use Rattle.hf_base.specs.EntryLaws.{texts_again, num_again, texts_take, num_take, refused_not}
@@ -21,7 +24,8 @@ use Rattle.hf_box.specs.Head.{written_at}
 use Rattle.hf_box.proofs.Lists.{boxes_read}
 use Rattle.hf_box.proofs.BoxLaws.{boxes_iff_frames, same_boxes}
 use Rattle.hf_box.proofs.TableLaws.{boxes_again, boxes_take, bodies}
-use Rattle.hf_links.specs.Grpl.{Group, IsGroup, group_ids, group_rows, IsGrpl, IsGrplWithin, group_at, with_group, grpl_at, group_body, grpl_body, IsWritable}
+use Rattle.hf_links.specs.declared.grpl.Group.{Group as GroupView}
+use Rattle.hf_links.specs.Grpl.{Group, groups_of, IsGroup, group_ids, group_rows, IsGrpl, IsGrplWithin, group_at, with_group, grpl_at, group_body, grpl_body, IsWritable}
 use Rattle.hf_links.proofs.WrittenBoxes.{ids_written, placed, HasSize, placed-framed, placed-each, length-placed}
 
 abbrev id_of : Group → ℕ
@@ -144,6 +148,41 @@ grpl_take b groups fits e =
       distinct = each_new id_of [] t.0 refl (both_first (IsNew id_of) (IsFew ROWS len_of) [] t.0 t.3);
     } in
     subst (λ (l : List Group). IsGrplWithin b l) (sym t.1) (made, framed.1, rows)
+
+-- ---- reading, as a loop does
+
+pub one_more : (rows : ℕ) (earlier : List Group) (b : BoxAt) (g : Group) → rows ≡ group_rows earlier → group_at rows b ≡ Ok g → has_id g.id (group_ids earlier) ≡ false → with_group earlier b ≡ Ok (earlier ++ g ∷ [])
+unfolding with_group
+one_more rows earlier b g same h new = rw (← same, h, new) refl
+
+pub stops : (rows : ℕ) (earlier : List Group) (b : BoxAt) (fault : OpenFault) → rows ≡ group_rows earlier → Fails fault (group_at rows b) → Fails fault (with_group earlier b)
+unfolding with_group
+stops rows earlier b errors.NoMemory same h = tt
+stops rows earlier b (errors.Unfit e) same h = rw (← same, h) refl
+
+pub met_again : (rows : ℕ) (earlier : List Group) (b : BoxAt) (g : Group) → rows ≡ group_rows earlier → group_at rows b ≡ Ok g → has_id g.id (group_ids earlier) ≡ true → with_group earlier b ≡ Err (DoubleGroup g.id)
+unfolding with_group
+met_again rows earlier b g same h old = rw (← same, h, old) refl
+
+-- the ids of groups, with one more
+pub has-push : (q : ℕ) (earlier : List Group) (g : Group) → has_id q (group_ids (earlier ++ g ∷ [])) ≡ (eqb g.id q || has_id q (group_ids earlier))
+has-push q [] g = refl
+has-push q (x ∷ xs) g = elim (cases_Bool (eqb x.id q)) [
+  | inl t ↦ rw t (elim (cases_Bool (eqb g.id q)) [ inl a ↦ rw a refl | inr a ↦ rw a refl ])
+  | inr f ↦ rw (f, has-push q xs g) refl
+]
+
+abbrev Read : Type 0
+Read = Result (Vec GroupView) OpenFault
+
+pub is_found : (b : BoxAt) (r : Read) → IsBytes b.body → Gives (λ groups. groups_of groups.items) r (grpl_at b) → IfOk r (λ groups. IsGrplWithin b (groups_of groups.items))
+is_found b (Ok groups) fits given = grpl_take b (groups_of groups.items) fits given
+is_found b (Err e) fits given = tt
+
+pub is_only : (b : BoxAt) (r : Read) (groups : List Group) → Gives (λ groups. groups_of groups.items) r (grpl_at b) → IsGrplWithin b groups → MatchOpen r (λ read. groups_of read.items ≡ groups) (λ fault. ⊥)
+is_only b (Ok read) groups given h = ok_is (groups_of read.items) groups (sym given ∙ grpl_again b groups h)
+is_only b (Err errors.NoMemory) groups given h = tt
+is_only b (Err (errors.Unfit e)) groups given h = let f = grpl_again b groups h in absurd cc
 
 -- ---- a box has one list of groups at most
 

@@ -1,17 +1,22 @@
 -- References are read as they stand, and as they are written.
-use Rattle.std.proofs.Common.{◌≡◌, ℕ, ◌+◌, ◌≤◌, ◌<◌, ◌^◌, Bool, true, false, List, [], ◌∷◌, ◌++◌, length, ltb, Ok, refl, sym, ap, subst, ◌∙◌, append_assoc, append-nil, length-append, arith, inl, inr}
+use Rattle.std.proofs.Common.{◌≡◌, ℕ, ◌+◌, ◌-◌, ◌≤◌, ◌<◌, ◌^◌, Bool, true, false, List, [], ◌∷◌, ◌++◌, length, ltb, drop, length-drop, Result, Ok, Err, refl, sym, ap, subst, ◌∙◌, append_assoc, append-nil, length-append, arith, inl, inr}
+use Rattle.std.specs.Prelude.{IfOk}
+use Rattle.std.specs.Global.{Vec}
 use Rattle.std.specs.List.{AllByRecursion, AllZip, flat_map}
 use Rattle.std.proofs.lemmas.Bool.{ltb-false, le-ltb}
 use Rattle.std.proofs.lemmas.List.Sums.{sum_by-cons}
 use Rattle.hf_base.specs.declared.four.FourCc.{FourCc}
+use Rattle.hf_base.specs.declared.fault.ReadRefusal.{ReadRefusal}
 use Rattle.hf_base.specs.declared.fault.ReadRefusal.TheVariants.{BadRecord, BadVersion, TooLarge}
+use Rattle.hf_base.specs.declared.fault.OpenFault.{OpenFault}
+use Rattle.hf_base.specs.declared.fault.OpenFault.TheVariants as errors
 use Rattle.hf_base.specs.declared.kinds.TheConstants.{IREF}
 use Rattle.hf_base.specs.declared.limits.TheConstants.{BOXES, ROWS}
 use Rattle.hf_base.specs.declared.loc.RefBox.{RefBox}
-use Rattle.hf_base.specs.Number.{IsBytes, num}
+use Rattle.hf_base.specs.Number.{IsBytes, num, number}
 use Rattle.hf_base.specs.NumberLaws.{length-num}
-use Rattle.hf_base.specs.Reading.{front, front_full, times}
-use Rattle.hf_base.specs.ReadingLaws.{bind_ok, ok_is, front_takes, front_again, full_takes, full_again}
+use Rattle.hf_base.specs.Reading.{◌>>=◌, front, front_full, times, Fails, Gives, MatchOpen}
+use Rattle.hf_base.specs.ReadingLaws.{bind_ok, guard_ok, ok_is, front_takes, front_again, full_takes, full_again}
 use Rattle.hf_base.specs.Entries.{IsNum, refuse_if, IsIdWidth, id_width_at}
 use Rattle.hf_base.specs.EntryLaws.{texts_again, num_again, texts_take, num_take, width_again, width_take, refused_not}
 use Rattle.hf_base.specs.NewEntries.{IsFew, few_each, each_few}
@@ -119,6 +124,47 @@ iref_take b links fits e =
     } in
     let rows : link_rows t.0 ≤ ROWS = each_few ROWS (λ (x : RefBox). length x.to) [] t.0 (omega arith) t.3 in
     subst (λ (l : List RefBox). IsIrefWithin b l) (sym t.1) (made, framed.1, rows)
+
+-- ---- reading, as a loop does
+
+pub one_more : (width rows : ℕ) (earlier : List RefBox) (b : BoxAt) (r : RefBox) → rows ≡ link_rows earlier → ref_box_at width rows b ≡ Ok r → with_ref_box width earlier b ≡ Ok (earlier ++ r ∷ [])
+unfolding with_ref_box
+one_more width rows earlier b r same h = rw (← same, h) refl
+
+pub stops : (width rows : ℕ) (earlier : List RefBox) (b : BoxAt) (fault : OpenFault) → rows ≡ link_rows earlier → Fails fault (ref_box_at width rows b) → Fails fault (with_ref_box width earlier b)
+unfolding with_ref_box
+stops width rows earlier b errors.NoMemory same h = tt
+stops width rows earlier b (errors.Unfit e) same h = rw (← same, h) refl
+
+-- how many bytes stand behind a field, and behind a version and flags
+length-after : (width : ℕ) (short : ReadRefusal) (bytes : List ℕ) (x : ℕ × List ℕ) → front width short bytes ≡ Ok x → width + length x.1 ≡ length bytes
+unfolding front
+length-after width short bytes x e =
+    let g = guard_ok (ltb (length bytes) width) short (number width bytes, drop width bytes) x e in
+    let long : width ≤ length bytes = ltb-false _ _ g.0 in
+    let rest : length x.1 ≡ length bytes - width = ap (λ (y : ℕ × List ℕ). length y.1) (sym g.1) ∙ length-drop width bytes in
+    omega (arith, long, rest)
+
+pub length-behind : (short : ReadRefusal) (bytes : List ℕ) (x : (ℕ × ℕ) × List ℕ) → front_full short bytes ≡ Ok x → 4 + length x.1 ≡ length bytes
+unfolding front_full
+length-behind short bytes x e =
+    let a = bind_ok (front 1 short bytes) (λ version. front 3 short version.1 >>= λ flags. Ok ((version.0, flags.0), flags.1)) x e in
+    let b = bind_ok (front 3 short a.0.1) (λ flags. Ok ((a.0.0, flags.0), flags.1)) x a.2 in
+    let made : (ℕ × ℕ) × List ℕ = ((a.0.0, b.0.0), b.0.1) in
+    let rest : length b.0.1 ≡ length x.1 = ap (λ (y : (ℕ × ℕ) × List ℕ). length y.1) (ok_is made x b.2) in
+    omega (arith, length-after 1 short bytes a.0 a.1, length-after 3 short a.0.1 b.0 b.1, rest)
+
+abbrev Read : Type 0
+Read = Result (Vec RefBox) OpenFault
+
+pub is_found : (b : BoxAt) (r : Read) → IsBytes b.body → Gives (λ links. links.items) r (iref_at b) → IfOk r (λ links. IsIrefWithin b links.items)
+is_found b (Ok links) fits given = iref_take b links.items fits given
+is_found b (Err e) fits given = tt
+
+pub is_only : (b : BoxAt) (r : Read) (links : List RefBox) → Gives (λ links. links.items) r (iref_at b) → IsIrefWithin b links → MatchOpen r (λ read. read.items ≡ links) (λ fault. ⊥)
+is_only b (Ok read) links given h = ok_is read.items links (sym given ∙ iref_again b links h)
+is_only b (Err errors.NoMemory) links given h = tt
+is_only b (Err (errors.Unfit e)) links given h = let f = iref_again b links h in absurd cc
 
 -- ---- a box has one list of references at most
 

@@ -1,3 +1,4 @@
 pub mod GrplLemmas
 pub mod IrefLemmas
+pub mod TableLoop
 pub mod WrittenBoxes

@@ -1,6 +1,21 @@
 //! `grpl`: GroupsListBox of ISO/IEC 14496-12.
 
-use hf_base::{FourCc, Ids, NoMemory, TryClone};
+ghost use Rattle.std.specs.Prelude.{◌≡◌, ◌<◌, ◌≤◌, ◌+◌, ◌^◌, List, [], length, IfOk};
+ghost use Rattle.hf_base.specs.Reading.{Gives, MatchOpen};
+ghost use Rattle.hf_base.specs.declared.kinds.TheConstants.{GRPL};
+ghost use Rattle.hf_base.specs.declared.limits.TheConstants.{ROWS};
+ghost use Rattle.hf_box.specs.Boxes.{BoxAt, box_of, boxes_of, end_of};
+ghost use Rattle.hf_box.specs.Tables.{boxes_from};
+ghost use Rattle.hf_links.specs.Grpl.{Group as Stated, IsGrplWithin, group_of, groups_of, group_at, with_group, grpl_at};
+
+use crate::ids::front_ids;
+use hf_base::kinds::GRPL;
+use hf_base::limits::ROWS;
+use hf_base::{
+    FourCc, Ids, NoMemory, OpenFault, ReadRefusal, SeenIds, TryClone, front_version, front32,
+};
+use hf_box::{BoxView, read_boxes};
+use std::alloc::Global;
 
 /// A group of items (EntityToGroupBox of ISO/IEC 14496-12).
 #[derive(Debug, Drop)]
@@ -30,4 +45,99 @@ impl<'a> TryClone for Group<'a> {
             tail: self.tail,
         })
     }
+}
+
+/// The group of an inner box (EntityToGroupBox), behind so many rows.
+#[tactic(auto, unfolding(crate::specs::Grpl::group_at))]
+fn group_in<'a>(alloc: Global, rows: usize, view: &BoxView<'a>) -> Result<Group<'a>, OpenFault>
+    requires { rows ≤ ROWS }
+    ensures exact { Gives group_of result (group_at rows (box_of view.now)) }
+    ensures within { IfOk result (λ g. rows + 1 + length g.entities ≤ ROWS) }
+{
+    let at = view.at;
+    let short = ReadRefusal::BadRecord { kind: GRPL, at };
+    let (version, flags, rest) = front_version(view.body, short)?;
+    let (id, rest) = front32(rest, short)?;
+    let (count, rest) = front32(rest, short)?;
+    if rows + 1 + count as usize > ROWS {
+        return Err(OpenFault::Unfit(ReadRefusal::TooLarge { kind: GRPL, at }));
+    }
+    let (entities, tail) = front_ids(alloc, true, count, rest, short)?;
+    Ok(Group {
+        kind: view.kind,
+        version,
+        flags,
+        id,
+        entities,
+        tail,
+    })
+}
+
+/// The groups of all inner boxes.
+fn groups_in<'a>(alloc: Global, views: &[BoxView<'a>]) -> Result<Vec<Group<'a>>, OpenFault>
+    ensures { Gives (λ groups. groups_of groups.items) result (boxes_from with_group [] (boxes_of views.now)) }
+{
+    let mut groups = Vec::with_capacity(alloc, views.len())?;
+    let mut seen = SeenIds::new(alloc);
+    let mut rows = 0;
+    for view in views {
+        let group = group_in(alloc, rows, view)?;
+        let id = group.id;
+        if !seen.meet(id)? {
+            return Err(OpenFault::Unfit(ReadRefusal::DoubleGroup { id }));
+        }
+        rows += 1 + group.entities.len();
+        groups.push(group)?;
+    }
+    Ok(groups)
+}
+
+/// The groups of a box.
+#[tactic(auto, unfolding(crate::specs::Grpl::grpl_at))]
+fn groups_of_box<'a>(alloc: Global, view: &BoxView<'a>) -> Result<Vec<Group<'a>>, OpenFault>
+    requires { end_of (box_of view.now) < 2 ^ 64 }
+    ensures { Gives (λ groups. groups_of groups.items) result (grpl_at (box_of view.now)) }
+{
+    let views = read_boxes(alloc, view.body, view.at + u64::from(view.head), false)?;
+    groups_in(alloc, &views)
+}
+
+/// The same, of a body of bytes.
+fn grpl_in<'a>(
+    alloc: Global,
+    kind: FourCc,
+    at: u64,
+    head: u8,
+    body: &'a [u8],
+) -> Result<Vec<Group<'a>>, OpenFault>
+    requires { at + head + length body.now < 2 ^ 64 }
+    ensures found { let b : BoxAt = record { kind = kind; at = at; head = head; body = body.now } in IfOk result (λ groups. IsGrplWithin b (groups_of groups.items)) }
+    ensures only { let b : BoxAt = record { kind = kind; at = at; head = head; body = body.now } in (groups : List Stated) → IsGrplWithin b groups → MatchOpen result (λ read. groups_of read.items ≡ groups) (λ fault. ⊥) }
+    ensures exact { let b : BoxAt = record { kind = kind; at = at; head = head; body = body.now } in Gives (λ groups. groups_of groups.items) result (grpl_at b) }
+{
+    let view = BoxView {
+        kind,
+        at,
+        head,
+        body,
+    };
+    groups_of_box(alloc, &view)
+}
+
+/// Reads the groups of a `grpl`, one for each inner box, in file order.
+///
+/// The faults of `read_boxes` for the inner boxes come first, and then, for each of them and with its
+/// place, BadRecord where it is too short for its fields, TooLarge where groups and entities pass
+/// `ROWS`, which is this project's own limit, and DoubleGroup where an earlier group has its id.
+pub fn read_grpl<'a>(alloc: Global, view: &BoxView<'a>) -> Result<Vec<Group<'a>>, OpenFault>
+    requires kind { view.now.kind ≡ GRPL }
+    requires place { end_of (box_of view.now) < 2 ^ 64 }
+    // What is read stands there.
+    ensures found { IfOk result (λ groups. IsGrplWithin (box_of view.now) (groups_of groups.items)) }
+    // What stands there is read.
+    ensures only { (groups : List Stated) → IsGrplWithin (box_of view.now) groups → MatchOpen result (λ read. groups_of read.items ≡ groups) (λ fault. ⊥) }
+    // Which refusal it is.
+    ensures exact { Gives (λ groups. groups_of groups.items) result (grpl_at (box_of view.now)) }
+{
+    grpl_in(alloc, view.kind, view.at, view.head, view.body)
 }

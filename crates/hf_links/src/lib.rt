@@ -2,7 +2,10 @@
 #![tactic(auto)]
 
 mod grpl;
+mod ids;
+mod iref;
 pub mod laws;
 
-pub use grpl::Group;
+pub use grpl::{Group, read_grpl};
 pub use hf_base::RefBox;
+pub use iref::read_iref;
