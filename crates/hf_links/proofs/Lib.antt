@@ -1,3 +1,4 @@
+pub mod Fronts
 pub mod GrplLemmas
 pub mod IrefLemmas
 pub mod TableLoop

@@ -8,4 +8,4 @@ pub mod laws;
 
 pub use grpl::{Group, read_grpl};
 pub use hf_base::RefBox;
-pub use iref::read_iref;
+pub use iref::{give_ref, put_ref, read_iref};

@@ -1,0 +1,52 @@
+-- The fields of a box that are written in front of its ids.
+use Rattle.std.proofs.Common.{◌≡◌, ℕ, ◌+◌, ◌*◌, ◌^◌, ◌<◌, ◌≤◌, Bool, true, false, List, ◌++◌, length, length-append, append_assoc, replicate, refl, sym, ap, ◌∙◌, arith}
+use Rattle.std.specs.List.{flat_map}
+use borrow.Rule.Slice.PartMut.{put_mid}
+use Rattle.hf_base.specs.Number.{num}
+use Rattle.hf_base.specs.NumberLaws.{length-num}
+use Rattle.hf_base.specs.declared.four.FourCc.{FourCc}
+use Rattle.hf_base.specs.declared.limits.TheConstants.{LINKS}
+use Rattle.hf_box.specs.Head.{box}
+use Rattle.hf_box.specs.Written.{id_width}
+use Rattle.hf_box.proofs.HeadLemmas.{box-compact}
+use Rattle.hf_links.specs.Iref.{reference_body}
+use Rattle.hf_links.proofs.WrittenBoxes.{length-ids}
+
+length-narrow : (from : ℕ) (to : List ℕ) → length (reference_body false from to) ≡ 4 + length to * 2
+unfolding reference_body
+length-narrow from to = simp (length-append, length-num, length-ids) (omega arith)
+
+length-wide : (from : ℕ) (to : List ℕ) → length (reference_body true from to) ≡ 6 + length to * 4
+unfolding reference_body
+length-wide from to = simp (length-append, length-num, length-ids) (omega arith)
+
+-- a box of this size, whose body is fields and what stands behind them
+pub boxed : (kind : FourCc) (size : ℕ) (fields behind body : List ℕ) → body ≡ fields ++ behind → size ≡ 8 + length body → size < 256 ^ 4 → ((num size 4 ++ kind.0) ++ fields) ++ behind ≡ box kind body
+boxed kind size fields behind body parts same fits =
+    let compact = box-compact kind body (omega (arith, fits, same)) in
+    append_assoc (num size 4 ++ kind.0) fields behind ∙ ap (λ (l : List ℕ). (num size 4 ++ kind.0) ++ l) (sym parts) ∙ ap (λ (n : ℕ). (num n 4 ++ kind.0) ++ body) same ∙ sym compact
+
+-- a type that is written behind the size
+pub front_is : (size : ℕ) (kind some more : List ℕ) → put_mid 4 4 (num size 4 ++ replicate 4 0 ++ some ++ more) kind ≡ (num size 4 ++ kind) ++ (some ++ more)
+unfolding num
+front_is size kind some more = refl
+
+body_is : (wide : Bool) (from : ℕ) (to : List ℕ) → reference_body wide from to ≡ (num from (id_width wide) ++ num (length to) 2) ++ flat_map (λ id. num id (id_width wide)) to
+unfolding reference_body
+body_is wide from to = refl
+
+-- ids of two bytes
+pub narrow_is : (kind : FourCc) (from : ℕ) (to : List ℕ) → length to ≤ LINKS
+    → put_mid 4 4 (num (12 + 2 * length to) 4 ++ replicate 4 0 ++ num from 2 ++ num (length to) 2) kind.0 ++ flat_map (λ id. num id 2) to ≡ box kind (reference_body false from to)
+narrow_is kind from to few =
+    let size : 12 + 2 * length to ≡ 8 + length (reference_body false from to) = omega (arith, length-narrow from to) in
+    let ids = flat_map (λ id. num id 2) to in
+    ap (λ (l : List ℕ). l ++ ids) (front_is (12 + 2 * length to) kind.0 (num from 2) (num (length to) 2)) ∙ boxed kind (12 + 2 * length to) (num from 2 ++ num (length to) 2) ids (reference_body false from to) (body_is false from to) size (omega (arith, few))
+
+-- ids of four bytes
+pub wide_is : (kind : FourCc) (from : ℕ) (to : List ℕ) → length to ≤ LINKS
+    → put_mid 4 4 (num (14 + 4 * length to) 4 ++ replicate 4 0 ++ num from 4 ++ num (length to) 2) kind.0 ++ flat_map (λ id. num id 4) to ≡ box kind (reference_body true from to)
+wide_is kind from to few =
+    let size : 14 + 4 * length to ≡ 8 + length (reference_body true from to) = omega (arith, length-wide from to) in
+    let ids = flat_map (λ id. num id 4) to in
+    ap (λ (l : List ℕ). l ++ ids) (front_is (14 + 4 * length to) kind.0 (num from 4) (num (length to) 2)) ∙ boxed kind (14 + 4 * length to) (num from 4 ++ num (length to) 2) ids (reference_body true from to) (body_is true from to) size (omega (arith, few))
