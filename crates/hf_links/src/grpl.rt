@@ -1,20 +1,28 @@
 //! `grpl`: GroupsListBox of ISO/IEC 14496-12.
 
-ghost use Rattle.std.specs.Prelude.{◌≡◌, ◌<◌, ◌≤◌, ◌+◌, ◌^◌, List, [], length, IfOk};
+ghost use Rattle.std.specs.Prelude.{◌≡◌, ◌<◌, ◌≤◌, ◌+◌, ◌*◌, ◌^◌, ◌++◌, List, [], true, length, IfOk};
+ghost use Rattle.std.specs.List.{flat_map};
+ghost use Rattle.hf_base.specs.Number.{num};
 ghost use Rattle.hf_base.specs.Reading.{Gives, MatchOpen};
 ghost use Rattle.hf_base.specs.declared.kinds.TheConstants.{GRPL};
-ghost use Rattle.hf_base.specs.declared.limits.TheConstants.{ROWS};
+ghost use Rattle.hf_base.specs.declared.limits.TheConstants.{META, ROWS};
 ghost use Rattle.hf_box.specs.Boxes.{BoxAt, box_of, boxes_of, end_of};
+ghost use Rattle.hf_box.specs.Head.{box, box_len};
 ghost use Rattle.hf_box.specs.Tables.{boxes_from};
-ghost use Rattle.hf_links.specs.Grpl.{Group as Stated, IsGrplWithin, group_of, groups_of, group_at, with_group, grpl_at};
+ghost use Rattle.hf_desk.specs.Outside.{Outside};
+ghost use Rattle.hf_desk.specs.Calls.{Puts};
+ghost use Rattle.hf_desk.specs.Pages.{ByPut, Gives as GivesTo};
+ghost use Rattle.hf_links.specs.Grpl.{Group as Stated, IsGrplWithin, group_body, group_of, groups_of, group_at, with_group, grpl_at};
 
-use crate::ids::front_ids;
+use crate::ids::{front_ids, give_ids};
 use hf_base::kinds::GRPL;
 use hf_base::limits::ROWS;
 use hf_base::{
-    FourCc, Ids, NoMemory, OpenFault, ReadRefusal, SeenIds, TryClone, front_version, front32,
+    FourCc, Ids, NoMemory, OpenFault, ReadRefusal, SeenIds, TryClone, be_put, front_version,
+    front32,
 };
 use hf_box::{BoxView, read_boxes};
+use hf_desk::{Desk, Page, Put, WriteFault};
 use std::alloc::Global;
 
 /// A group of items (EntityToGroupBox of ISO/IEC 14496-12).
@@ -140,4 +148,53 @@ pub fn read_grpl<'a>(alloc: Global, view: &BoxView<'a>) -> Result<Vec<Group<'a>>
     ensures exact { Gives (λ groups. groups_of groups.items) result (grpl_at (box_of view.now)) }
 {
     grpl_in(alloc, view.kind, view.at, view.head, view.body)
+}
+
+/// The header of a group, and the fields in front of its entities.
+fn front_of(group: &Group<'_>) -> [u8; 20]
+    requires flags { group.now.flags < 256 ^ 3 }
+    requires size { 20 + 4 * length group.now.entities + length group.now.tail.now ≤ META }
+    ensures { result ++ flat_map (λ id. num id 4) group.now.entities ++ group.now.tail.now ≡ box group.now.kind (group_body (group_of group.now)) }
+{
+    let count = group.entities.len() as u64;
+    let mut bytes = [0u8; 20];
+    be_put(&mut bytes, 0, 4, 20 + 4 * count + group.tail.len() as u64);
+    // The flags take the last three of these four bytes, and the version the first one.
+    be_put(&mut bytes, 8, 4, group.flags as u64);
+    be_put(&mut bytes, 8, 1, group.version as u64);
+    be_put(&mut bytes, 12, 4, group.id as u64);
+    be_put(&mut bytes, 16, 4, count);
+    bytes[4..8].copy_from_slice(&group.kind.0);
+    bytes
+}
+
+/// Gives a whole group (EntityToGroupBox) to a page, with its version, its flags and its tail.
+/// `WriteFault` comes only where the desk failed; then some front of what the page held and of the box
+/// was put.
+pub fn give_group<D: Desk>(
+    group: &Group<'_>,
+    page: &mut Page<Put>,
+    desk: &mut D,
+) -> Result<(), WriteFault>
+    requires creating { (D.outside desk.old).creating ≡ true }
+    requires flags { group.now.flags < 256 ^ 3 }
+    requires size { box_len (length (group_body (group_of group.now))) ≤ META }
+    ensures { GivesTo ByPut (D.outside desk.old) page.old (box group.now.kind (group_body (group_of group.now))) result (D.outside desk.new) page.new }
+{
+    page.give(&front_of(group), desk)?;
+    give_ids(group.entities.as_slice(), true, page, desk)?;
+    page.give(group.tail, desk)
+}
+
+/// Puts a whole group (EntityToGroupBox), as `give_group` gives it to a page. `WriteFault` comes only
+/// where the desk failed; then some front of the box was put.
+pub fn put_group<D: Desk>(group: &Group<'_>, desk: &mut D) -> Result<(), WriteFault>
+    requires creating { (D.outside desk.old).creating ≡ true }
+    requires flags { group.now.flags < 256 ^ 3 }
+    requires size { box_len (length (group_body (group_of group.now))) ≤ META }
+    ensures { Puts (D.outside desk.old) (box group.now.kind (group_body (group_of group.now))) result (D.outside desk.new) }
+{
+    let mut page = Page::new();
+    give_group(group, &mut page, desk)?;
+    page.end(desk)
 }

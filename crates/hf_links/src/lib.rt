@@ -6,6 +6,6 @@ mod ids;
 mod iref;
 pub mod laws;
 
-pub use grpl::{Group, read_grpl};
+pub use grpl::{Group, give_group, put_group, read_grpl};
 pub use hf_base::RefBox;
 pub use iref::{give_ref, put_ref, read_iref};
