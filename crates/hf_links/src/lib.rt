@@ -5,6 +5,7 @@ mod grpl;
 mod ids;
 mod iref;
 pub mod laws;
+pub mod worked;
 
 pub use grpl::{Group, give_group, put_group, read_grpl};
 pub use hf_base::RefBox;
