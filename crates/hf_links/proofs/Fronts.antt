@@ -1,7 +1,7 @@
 -- The fields of a box that are written in front of its ids.
 use Rattle.std.proofs.Common.{◌≡◌, ℕ, ◌+◌, ◌*◌, ◌^◌, ◌<◌, ◌≤◌, Bool, true, false, List, ◌++◌, length, length-append, append_assoc, replicate, refl, sym, ap, ◌∙◌, arith, inl, inr, drop, ltb}
 use Rattle.std.specs.List.{flat_map}
-use Rattle.std.proofs.lemmas.Bool.{cases_Bool}
+use Rattle.std.proofs.lemmas.Bool.{cases_Bool, lt-ltb}
 use borrow.Rule.Slice.PartMut.{put_mid}
 use Rattle.hf_base.specs.Number.{num}
 use Rattle.hf_base.specs.NumberLaws.{length-num}
@@ -61,6 +61,13 @@ least_len body = elim (cases_Bool (ltb (8 + body) (256 ^ 4))) [ inl t ↦ rw t (
 length-group : (g : Group) → length (group_body g) ≡ 12 + 4 * length g.entities + length g.tail
 unfolding group_body
 length-group g = simp (length-append, length-num, length-ids) (omega arith)
+
+-- a group that is not too long is of this size
+pub group_is_small : (g : Group) (most : ℕ) → 20 + 4 * length g.entities + length g.tail ≤ most → most < 256 ^ 4 → box_len (length (group_body g)) ≤ most
+unfolding box_len
+group_is_small g most le lt =
+    let small : ltb (8 + length (group_body g)) (256 ^ 4) ≡ true = lt-ltb _ _ (omega (arith, length-group g)) in
+    rw small (omega (arith, length-group g))
 
 group_body_is : (g : Group) → group_body g ≡ (full g.version g.flags ++ (num g.id 4 ++ num (length g.entities) 4)) ++ (flat_map (λ id. num id 4) g.entities ++ g.tail)
 unfolding group_body

@@ -10,3 +10,6 @@ pub mod worked;
 pub use grpl::{Group, give_group, put_group, read_grpl};
 pub use hf_base::RefBox;
 pub use iref::{give_ref, put_ref, read_iref};
+
+#[cfg(test)]
+mod tests;
