@@ -1,0 +1,5 @@
+pub mod Fronts
+pub mod GrplLemmas
+pub mod IrefLemmas
+pub mod TableLoop
+pub mod WrittenBoxes

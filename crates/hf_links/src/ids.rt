@@ -1,0 +1,90 @@
+//! Ids one behind the other, as they are read and as they are written.
+
+ghost use Rattle.std.specs.Prelude.{◌≡◌, ◌<◌, ◌^◌, true, false, length, IfOk, All};
+ghost use Rattle.std.specs.List.{flat_map};
+ghost use Rattle.hf_base.specs.Number.{num};
+ghost use Rattle.hf_base.specs.Reading.{Reads, Gives, front, times};
+ghost use Rattle.hf_box.specs.Written.{id_width};
+ghost use Rattle.hf_desk.specs.Outside.{Outside};
+ghost use Rattle.hf_desk.specs.Pages.{ByPut, Gives as GivesTo};
+
+use hf_base::{Ids, OpenFault, ReadRefusal, be_put, front16, front32};
+use hf_desk::{Desk, Page, Put, WriteFault};
+use std::alloc::Global;
+
+/// The id at the front, in four bytes where `wide` and otherwise in two, and the bytes after it;
+/// `short` where they are too few.
+pub fn front_id<'a>(
+    wide: bool,
+    bytes: &'a [u8],
+    short: ReadRefusal,
+) -> Result<(u32, &'a [u8]), ReadRefusal>
+    ensures { Reads (λ x. (x.0, x.1.now)) result (front (id_width wide) short bytes.now) }
+{
+    if wide {
+        return front32(bytes, short);
+    }
+    let (id, rest) = front16(bytes, short)?;
+    Ok((u32::from(id), rest))
+}
+
+/// So many ids, one behind the other, and the bytes after them. Memory is asked for as they are read,
+/// so that a count which the bytes cannot hold asks for none.
+pub fn front_ids<'a>(
+    alloc: Global,
+    wide: bool,
+    count: u32,
+    bytes: &'a [u8],
+    short: ReadRefusal,
+) -> Result<(Ids, &'a [u8]), OpenFault>
+    ensures exact { Gives (λ x. (x.0, x.1.now)) result (times (front (id_width wide) short) count bytes.now) }
+    ensures count { IfOk result (λ x. length x.0 ≡ count) }
+{
+    let mut ids = Ids::new(alloc);
+    let mut rest = bytes;
+    for _ in 0..count {
+        let (id, after) = front_id(wide, rest, short)?;
+        ids.push(id)?;
+        rest = after;
+    }
+    Ok((ids, rest))
+}
+
+/// Gives an id to a page, in four bytes where `wide` and otherwise in two.
+fn give_id<D: Desk>(
+    id: u32,
+    wide: bool,
+    page: &mut Page<Put>,
+    desk: &mut D,
+) -> Result<(), WriteFault>
+    requires creating { (D.outside desk.old).creating ≡ true }
+    requires fits { id < 256 ^ id_width wide }
+    ensures { GivesTo ByPut (D.outside desk.old) page.old (num id (id_width wide)) result (D.outside desk.new) page.new }
+{
+    if wide {
+        let mut bytes = [0u8; 4];
+        be_put(&mut bytes, 0, 4, id as u64);
+        return page.give(&bytes, desk);
+    }
+    let mut bytes = [0u8; 2];
+    be_put(&mut bytes, 0, 2, id as u64);
+    page.give(&bytes, desk)
+}
+
+/// Gives ids to a page, in four bytes each where `wide` and otherwise in two. `WriteFault` comes only
+/// where the desk failed; then some front of what the page held and of the ids was put.
+pub fn give_ids<D: Desk>(
+    ids: &[u32],
+    wide: bool,
+    page: &mut Page<Put>,
+    desk: &mut D,
+) -> Result<(), WriteFault>
+    requires creating { (D.outside desk.old).creating ≡ true }
+    requires fits { wide ≡ false → All (λ id. id < 256 ^ 2) ids.now }
+    ensures { GivesTo ByPut (D.outside desk.old) page.old (flat_map (λ id. num id (id_width wide)) ids.now) result (D.outside desk.new) page.new }
+{
+    for id in ids {
+        give_id(*id, wide, page, desk)?;
+    }
+    Ok(())
+}
