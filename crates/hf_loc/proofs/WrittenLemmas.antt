@@ -64,11 +64,10 @@ entry_is : (wide : Bool) (w : ℕ) (e : Entry) → IsWritten wide w e → IsEntr
 unfolding iloc_entry
 entry_is wide w e h =
     let parts = num e.offset w ++ num e.length w in
-    let small : e.method < 16 = omega (arith, h.method) in
     record {
       method = e.method;
       method_fits = omega (arith, h.method);
-      is_method = sym (mod-eq_of_lt small);
+      is_method = sym (mod-eq_of_lt h.method);
       id = h.id;
       dref = omega arith;
       base = omega arith;

@@ -213,9 +213,9 @@ iloc_body wide w entries =
     ++ num (length entries) (id_width wide)  -- item_count
     ++ flat_map (entry_text wide w) entries
 
--- the numbers of an entry fit their fields, and its method is one of the three that the standard has
+-- the numbers of an entry fit their fields; a method has four bits
 pub record IsWritten (wide : Bool) (w : ℕ) (e : Entry) : Type 0 where
   pub id : e.id < 256 ^ id_width wide
-  pub method : e.method ≤ 2
+  pub method : e.method < 16
   pub offset : e.offset < 256 ^ w
   pub length : e.length < 256 ^ w
