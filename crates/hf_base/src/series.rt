@@ -40,6 +40,15 @@ impl<T> Series<T> {
         }
     }
 
+    /// No elements, and room for so many. `NoMemory` comes where memory was refused.
+    pub fn with_capacity(alloc: Global, capacity: usize) -> Result<Series<T>, NoMemory>
+        ensures { IfOk result (λ list. list ≡ []) }
+    {
+        Ok(Series {
+            elements: Vec::with_capacity(alloc, capacity)?,
+        })
+    }
+
     /// How many elements there are.
     pub fn len(&self) -> usize
         ensures { result ≡ length self.now }
