@@ -1,0 +1,10 @@
+//! `iprp`: properties, and which items have them (ISO/IEC 23008-12).
+#![tactic(auto)]
+
+mod assoc;
+mod body;
+mod prop;
+
+pub use assoc::{Assoc, AssocList, Pick, Picks};
+pub use body::Body;
+pub use prop::{Prop, PropList};
