@@ -3,8 +3,12 @@
 
 mod assoc;
 mod body;
+mod ipma;
+mod iprp;
+pub mod laws;
 mod prop;
 
 pub use assoc::{Assoc, AssocList, Pick, Picks};
 pub use body::Body;
+pub use iprp::{Iprp, read_iprp};
 pub use prop::{Prop, PropList};

@@ -1,0 +1,5 @@
+pub mod IpmaLemmas
+pub mod IprpLemmas
+pub mod KindLemmas
+pub mod LoopLemmas
+pub mod TableLoop
