@@ -1,6 +1,6 @@
 -- The boxes of one type among others, as a loop meets them.
-use Rattle.std.proofs.Common.{◌≡◌, ◌+◌, ◌<◌, ◌≤◌, ℕ, Bool, true, false, List, [], ◌∷◌, ◌++◌, length, take, drop, get_or, map, Option, Some, None, Result, Ok, Err, refl, sym, ap, ◌∙◌, inl, inr}
-use Rattle.std.specs.Prelude.{filter}
+use Rattle.std.proofs.Common.{◌≡◌, ◌+◌, ◌<◌, ◌≤◌, ℕ, Bool, true, false, List, [], ◌∷◌, ◌++◌, length, take, drop, get_or, map, Option, Some, None, Result, Ok, Err, refl, sym, ap, ◌∙◌, arith, inl, inr}
+use Rattle.std.specs.Prelude.{filter, IfSome}
 use Rattle.std.specs.Option.{option_to_list, is_some}
 use Rattle.std.proofs.lemmas.Bool.{cases_Bool}
 use Rattle.std.proofs.lemmas.List.{take-append-drop, drop_more, take_all, map-append}
@@ -10,7 +10,7 @@ use Rattle.hf_base.specs.declared.fault.ReadRefusal.{ReadRefusal}
 use Rattle.hf_base.specs.declared.fault.ReadRefusal.TheVariants.{Double}
 use Rattle.hf_base.specs.declared.kinds.TheConstants.{IPCO, IPMA}
 use Rattle.hf_box.specs.declared.view.BoxView.{BoxView}
-use Rattle.hf_box.specs.Boxes.{BoxAt, box_of, boxes_of}
+use Rattle.hf_box.specs.Boxes.{BoxAt, box_of, boxes_of, end_of}
 use Rattle.hf_box.specs.Tables.{of_kind, boxes_from}
 use Rattle.hf_box.specs.Walk.{is_kind}
 use Rattle.hf_prop.specs.declared.assoc.Assoc.{Assoc}
@@ -53,3 +53,8 @@ second_ipco views i d (Some first) less met some kind =
 pub one_ipco : (views : List BoxView) (i : ℕ) (ipco : Option BoxView) → length views ≤ i → of_kind IPCO (boxes_of (take i views)) ≡ option_to_list (ipco_in ipco)
     → at_most_one (of_kind IPCO (boxes_of views)) ≡ Ok (ipco_in ipco)
 one_ipco views i ipco past met = one_again (of_kind IPCO (boxes_of views)) (ipco_in ipco) (ap (λ (l : List BoxView). of_kind IPCO (boxes_of l)) (sym (take_all i views past)) ∙ met)
+
+-- a bound of where a box ends
+pub ends_below : (found : Option BoxView) (limit most : ℕ) → limit < most → IfSome found (λ b. end_of (box_of b) ≤ limit) → IfSome found (λ b. end_of (box_of b) < most)
+ends_below None limit most less h = tt
+ends_below (Some view) limit most less h = omega arith
