@@ -132,7 +132,7 @@ assoc_take most at rows width w taken bytes x fits e =
       item = s0.1;
       count = subst (λ (k : ℕ). k < 256 ^ 1) (sym u.3) s1.1;
       parts = u.0;
-      is = ap (λ (k : ℕ). num i.0.0 width ++ (num k 1 ++ u.0)) (sym u.3);
+      is = ap (λ (k : ℕ). num i.0.0 width ++ (num k 1 ++ u.0)) (sym {a = length t.0.0} u.3);
       picks = u.2;
     } in
     let made : Assoc × List ℕ = (a, t.0.1) in

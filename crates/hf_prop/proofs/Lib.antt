@@ -3,3 +3,5 @@ pub mod IprpLemmas
 pub mod KindLemmas
 pub mod LoopLemmas
 pub mod TableLoop
+pub mod ViewLemmas
+pub mod WrittenLemmas

@@ -60,7 +60,6 @@ fn numbers(w: u32, h: u32, across: u32, down: u32) -> [u8; 32]
 
 /// The `clap` of a window in a picture of this width and height (CleanApertureBox of ISO/IEC 14496-12):
 /// the window is `w` by `h`, its first column is `x` and its first row `y`, counted from 0.
-#[tactic(auto, unfolding(crate::specs::Views::window_body))]
 pub fn window<'a>(x: u32, y: u32, w: u32, h: u32, width: u32, height: u32) -> Prop<'a>
     requires wide { 1 ≤ w }
     requires high { 1 ≤ h }
