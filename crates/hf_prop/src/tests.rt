@@ -104,6 +104,7 @@ fn many_entries_are_read(rt: HostRuntime) -> Result<(), Fail> {
     let iprp = read_iprp(rt.alloc(), &view(&body))?;
     assert_eq!(rt; iprp.props.len(), 0);
     assert_eq!(rt; iprp.assocs.len(), MANY as usize);
+    drop(iprp);
     body.extend_from_slice(b"\0\0\0\x13ipma\0\0\0\0\0\0\0\x01\0\x07\0")?;
     assert_eq!(rt;
         refusal(rt.alloc(), &body),
