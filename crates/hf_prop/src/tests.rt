@@ -1,0 +1,144 @@
+ghost use Rattle.std.specs.Prelude.{◌≡◌, ◌<◌, ◌^◌};
+ghost use Rattle.hf_box.specs.Boxes.{box_of, end_of};
+
+use super::*;
+use hf_base::kinds::{CLAP, IPCO, IPMA, IPRP, ISPE};
+use hf_base::{OpenFault, ReadRefusal, TryClone};
+use hf_box::BoxView;
+use std::alloc::Global;
+use std::test::Fail;
+
+/// The body of an `iprp` with two properties and two `ipma`: one has ids of two bytes and associations
+/// of one, the other ids of four bytes and associations of two.
+const BOTH: &[u8] = b"\0\0\0\x1aipco\0\0\0\x09irot\x01\0\0\0\x09imir\0\
+\0\0\0\x15ipma\0\0\0\0\0\0\0\x01\0\x01\x02\x81\x02\
+\0\0\0\x19ipma\x01\0\0\x01\0\0\0\x01\0\x01\x11\x70\x02\x80\x01\0\0";
+
+/// The body of a `clap` of the upper left 2000 by 1000 of a picture of 4032 by 3024.
+const CORNER: &[u8] =
+    b"\0\0\x07\xd0\0\0\0\x01\0\0\x03\xe8\0\0\0\x01\xff\xff\xf8\x10\0\0\0\x02\xff\xff\xf8\x18\0\0\0\x02";
+
+/// Entries of the table of many.
+const MANY: u16 = 4096;
+
+fn view<'a>(body: &'a [u8]) -> BoxView<'a>
+    ensures kind { result.kind ≡ IPRP }
+    ensures place { end_of (box_of result) < 2 ^ 64 }
+{
+    BoxView {
+        kind: IPRP,
+        at: 100,
+        head: 8,
+        body,
+    }
+}
+
+fn refusal(alloc: Global, body: &[u8]) -> Option<OpenFault> {
+    read_iprp(alloc, &view(body)).err()
+}
+
+fn pick(essential: bool, index: u16) -> Pick {
+    Pick { essential, index }
+}
+
+#[test]
+fn both_widths_are_read(rt: HostRuntime) -> Result<(), Fail> {
+    let iprp = read_iprp(rt.alloc(), &view(BOTH))?;
+    let props = iprp.props.as_slice();
+    assert_eq!(rt; props, [turn(1), mirror(0)].as_slice());
+    let assocs = iprp.assocs.as_slice();
+    assert_eq!(rt; assocs.len(), 2);
+    assert_eq!(rt; assocs[0].item, 1);
+    let narrow = [pick(true, 1), pick(false, 2)];
+    assert_eq!(rt; assocs[0].picks.as_slice(), narrow.as_slice());
+    assert_eq!(rt; assocs[1].item, 70_000);
+    let wide = [pick(true, 1), pick(false, 0)];
+    assert_eq!(rt; assocs[1].picks.as_slice(), wide.as_slice());
+    Ok(())
+}
+
+#[test]
+fn lists_are_copied(rt: HostRuntime) -> Result<(), Fail> {
+    let iprp = read_iprp(rt.alloc(), &view(BOTH))?;
+    let props = iprp.props.try_clone()?;
+    assert_eq!(rt; props.as_slice(), iprp.props.as_slice());
+    let assocs = iprp.assocs.try_clone()?;
+    assert_eq!(rt; assocs.len(), 2);
+    assert_eq!(rt;
+        assocs.as_slice()[0].picks.as_slice(),
+        iprp.assocs.as_slice()[0].picks.as_slice()
+    );
+    Ok(())
+}
+
+#[test]
+fn a_second_ipco_and_cut_bodies_are_refused(rt: HostRuntime) -> Result<(), Fail> {
+    let twice = b"\0\0\0\x08ipco\0\0\0\x09free\0\0\0\0\x08ipco";
+    assert_eq!(rt;
+        refusal(rt.alloc(), twice),
+        Some(OpenFault::Unfit(ReadRefusal::Double {
+            kind: IPCO,
+            at: 125
+        }))
+    );
+    let short = b"\0\0\0\x14ipma\0\0\0\0\0\0\0\x01\0\x01\x02\x81";
+    assert_eq!(rt;
+        refusal(rt.alloc(), short),
+        Some(OpenFault::Unfit(ReadRefusal::BadRecord {
+            kind: IPMA,
+            at: 108
+        }))
+    );
+    Ok(())
+}
+
+#[test]
+fn many_entries_are_read(rt: HostRuntime) -> Result<(), Fail> {
+    let mut body = Vec::new(rt.alloc());
+    body.extend_from_slice(b"\0\0\x40\x10ipma\0\0\0\0\0\0")?;
+    body.extend_from_slice(&MANY.to_be_bytes())?;
+    for id in 0..MANY {
+        body.extend_from_slice(&id.to_be_bytes())?;
+        body.extend_from_slice(b"\x01\x81")?;
+    }
+    let iprp = read_iprp(rt.alloc(), &view(&body))?;
+    assert_eq!(rt; iprp.props.len(), 0);
+    assert_eq!(rt; iprp.assocs.len(), MANY as usize);
+    drop(iprp);
+    body.extend_from_slice(b"\0\0\0\x13ipma\0\0\0\0\0\0\0\x01\0\x07\0")?;
+    assert_eq!(rt;
+        refusal(rt.alloc(), &body),
+        Some(OpenFault::Unfit(ReadRefusal::DoubleAssoc { id: 7 }))
+    );
+    Ok(())
+}
+
+#[test]
+fn properties_are_viewed_and_made(rt: HostRuntime) -> Result<(), Fail> {
+    let size = Prop {
+        kind: ISPE,
+        body: Body::lent(b"\0\0\0\0\0\0\x0f\xc0\0\0\x0b\xd0"),
+    };
+    assert_eq!(rt; size_of(&size), Some((4032, 3024)));
+    assert_eq!(rt; turn_of(&turn(3)), Some(3));
+    assert_eq!(rt; axis_of(&mirror(1)), Some(1));
+    let corner = window(0, 0, 2000, 1000, 4032, 3024);
+    assert_eq!(rt; corner.kind, CLAP);
+    assert_eq!(rt; corner.body.as_slice(), CORNER);
+    assert_eq!(rt; window_of(&corner), Some((2000, 1000)));
+    Ok(())
+}
+
+#[test]
+fn equal_bytes_are_equal_bodies(rt: HostRuntime) -> Result<(), Fail> {
+    let lent = Body::lent(b"\x01");
+    let mut bytes = [0u8; 32];
+    bytes[0] = 1;
+    let small = Body::small(bytes, 1);
+    assert_eq!(rt; lent, small);
+    assert_eq!(rt; lent.copy(), small.copy());
+    assert!(rt; small < Body::lent(b"\x01\0"));
+    assert_eq!(rt; turn(1).copy(), turn(1));
+    assert!(rt; mirror(1) < turn(0));
+    Ok(())
+}
