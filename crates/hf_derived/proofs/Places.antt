@@ -1,0 +1,55 @@
+-- Ids that rise, and their places.
+use Rattle.std.proofs.Common.{◌≡◌, ℕ, zero, suc, ◌≤◌, ◌<◌, List, [], ◌∷◌, length, get_or, Err, ap, ◌∙◌, arith, inl, inr}
+use Rattle.std.specs.Ordering.{nat_cmp}
+use Rattle.std.specs.List.Sorted.{IsBinarySearchResult}
+use Rattle.std.proofs.lemmas.Bool.{cases_lt, cases_order}
+use Rattle.std.proofs.lemmas.List.Sorted.{searched}
+use Rattle.hf_base.specs.Members.{IsIn, RisesFrom, Rises}
+use Rattle.hf_order.proofs.Members.{in_at}
+
+rises_above : (low : ℕ) (xs : List ℕ) → RisesFrom ◌<◌ low xs → (k : ℕ) → k < length xs → low < get_or xs k 0
+rises_above low [] up k less = absurd (omega arith)
+rises_above low (x ∷ xs) up zero less = up.0
+rises_above low (x ∷ xs) up (suc k) less = let next = rises_above x xs up.1 k (omega arith) in let first : low < x = up.0 in omega arith
+
+rises_tail : (x : ℕ) (xs : List ℕ) → Rises ◌<◌ (x ∷ xs) → Rises ◌<◌ xs
+rises_tail x [] up = tt
+rises_tail x (y ∷ ys) up = up.1
+
+pub rises_at : (xs : List ℕ) → Rises ◌<◌ xs → (i j : ℕ) → i < j → j < length xs → get_or xs i 0 < get_or xs j 0
+rises_at [] up i j lt less = absurd (omega arith)
+rises_at (x ∷ xs) up i zero lt less = absurd (omega arith)
+rises_at (x ∷ xs) up zero (suc j) lt less = rises_above x xs up j (omega arith)
+rises_at (x ∷ xs) up (suc i) (suc j) lt less = rises_at xs (rises_tail x xs up) i j (omega arith) (omega arith)
+
+pub rises_to : (xs : List ℕ) → Rises ◌<◌ xs → (i j : ℕ) → i ≤ j → j < length xs → get_or xs i 0 ≤ get_or xs j 0
+rises_to xs up i j le less = elim (cases_lt i j) [
+  | inl lt ↦ let below = rises_at xs up i j lt less in omega arith
+  | inr ge ↦ let same : get_or xs i 0 ≡ get_or xs j 0 = ap (λ (n : ℕ). get_or xs n 0) (let e : i ≡ j = omega arith in e) in omega arith
+]
+
+-- an id has one place
+pub one_place : (ids : List ℕ) → Rises ◌<◌ ids → (i j : ℕ) → i < length ids → j < length ids → get_or ids i 0 ≡ get_or ids j 0 → i ≡ j
+one_place ids up i j in' within same = elim (cases_order i j) [
+  | inl e ↦ e
+  | inr other ↦ elim other [
+    | inl lt ↦ absurd (let below = rises_at ids up i j lt within in omega arith)
+    | inr gt ↦ absurd (let above = rises_at ids up j i gt in' in omega arith)
+  ]
+]
+
+-- a search finds each of the ids
+pub not_missing : (ids : List ℕ) (id i : ℕ) → Rises ◌<◌ ids → IsIn id ids → IsBinarySearchResult (λ (y : ℕ). nat_cmp y id) ids (Err i) → ⊥
+not_missing ids id i up among result =
+    let at = in_at id ids among in
+    let k = at.0 in
+    let less : k < length ids = at.1 in
+    let there : get_or ids k 0 ≡ id = at.2 in
+    let parts = searched ids id (Err i) result (rises_to ids up) in
+    elim (cases_lt k i) [
+      | inl lt ↦ let below = parts.1 k lt in omega arith
+      | inr ge ↦ let above = parts.2 k ge less in omega arith
+    ]
+
+pub pair_same : (p : ℕ × ℕ) (a b : ℕ) → a ≡ p.0 → b ≡ p.1 → (a, b) ≡ p
+pair_same p a b e f = let q : ℕ × ℕ = (a, b) in let first : q ≡ (p.0, b) = ap (λ (n : ℕ). (n, b)) e in let second : (p.0, b) ≡ p = ap (λ (n : ℕ). (p.0, n)) f in first ∙ second

@@ -1,0 +1,4 @@
+pub mod Cycle
+pub mod Derived
+pub mod Grid
+pub mod Overlay
