@@ -1,7 +1,7 @@
 use Rattle.std.proofs.Common.{ℕ, refl}
 use Rattle.hf_base.specs.Number.{num}
 use Rattle.hf_box.specs.Written.{id_width}
-use Rattle.hf_desk.proofs.Paging.{gives_each, gives_each_stop, gives_exit}
+use Rattle.hf_desk.proofs.Paging.{gives_each, gives_each_stop}
 use Rattle.hf_links.proofs.ids.give_ids.Goals as goal
 
 pub returns-in_err-give_id : goal.returns-in_err-give_id
@@ -10,7 +10,7 @@ returns-in_err-give_id g c =
     let ids = c.args.ids.now in
     let i = c.loop-id.id-index in
     let err = c.from_residual.ensures.0 in
-    gives_exit refl err (gives_each_stop text ids i 0 c.loop-id-test.true refl (gives_each text ids i 0 c.loop-id-test.true c.loop-id.invariant c.in_err-give_id.ensures))
+    gives_each_stop text ids i 0 c.loop-id-test.true refl err c.loop-id.invariant c.in_err-give_id.ensures
 
 pub loop-id-preserved : goal.loop-id-preserved
 loop-id-preserved g c =
