@@ -43,10 +43,11 @@ fn pick(essential: bool, index: u16) -> Pick {
 
 #[test]
 fn both_widths_are_read(rt: HostRuntime) -> Result<(), Fail> {
-    let iprp = read_iprp(rt.alloc(), &view(BOTH))?;
-    let props = iprp.props.as_slice();
-    assert_eq!(rt; props, [turn(1), mirror(0)].as_slice());
-    let assocs = iprp.assocs.as_slice();
+    let Iprp { props, assocs } = read_iprp(rt.alloc(), &view(BOTH))?;
+    assert_eq!(rt; props.len(), 2);
+    assert_eq!(rt; props.get(0).copy(), turn(1));
+    assert_eq!(rt; props.get(1).copy(), mirror(0));
+    let assocs = assocs.as_slice();
     assert_eq!(rt; assocs.len(), 2);
     assert_eq!(rt; assocs[0].item, 1);
     let narrow = [pick(true, 1), pick(false, 2)];
@@ -59,15 +60,14 @@ fn both_widths_are_read(rt: HostRuntime) -> Result<(), Fail> {
 
 #[test]
 fn lists_are_copied(rt: HostRuntime) -> Result<(), Fail> {
-    let iprp = read_iprp(rt.alloc(), &view(BOTH))?;
-    let props = iprp.props.try_clone()?;
-    assert_eq!(rt; props.as_slice(), iprp.props.as_slice());
-    let assocs = iprp.assocs.try_clone()?;
-    assert_eq!(rt; assocs.len(), 2);
-    assert_eq!(rt;
-        assocs.as_slice()[0].picks.as_slice(),
-        iprp.assocs.as_slice()[0].picks.as_slice()
-    );
+    let Iprp { props, assocs } = read_iprp(rt.alloc(), &view(BOTH))?;
+    let same = props.try_clone()?;
+    assert_eq!(rt; same.len(), 2);
+    assert_eq!(rt; same.get(1).copy(), mirror(0));
+    let copied = assocs.try_clone()?;
+    assert_eq!(rt; copied.len(), 2);
+    let narrow = [pick(true, 1), pick(false, 2)];
+    assert_eq!(rt; copied.get(0).picks.as_slice(), narrow.as_slice());
     Ok(())
 }
 
