@@ -1,8 +1,10 @@
 //! Worked payloads of derived items (ISO/IEC 23008-12). Each is the contract of a function that does nothing.
 
-ghost use Rattle.std.specs.Prelude.{◌≡◌, true, false, List, [], ◌∷◌, replicate};
+ghost use Rattle.std.specs.Prelude.{◌≡◌, true, false, List, [], ◌∷◌, replicate, Some, None};
 ghost use Rattle.hf_box.specs.Literals.{four, hex_of};
 ghost use Rattle.hf_derived.specs.Derived.{fits, side};
+ghost use Rattle.hf_derived.specs.Grid.{grid_at};
+ghost use Rattle.hf_derived.specs.Overlay.{overlay_at};
 
 /// Bit 0 of the flags alone tells how many bytes a side takes.
 pub fn sides_are_told_by_bit_0()
@@ -81,4 +83,15 @@ pub fn identities_have_one_input()
     ensures other { fits (four "hvc1") [] 0 ≡ true }
     ensures other_of_two { fits (four "hvc1") (hex_of "ff") 2 ≡ true }
     ensures other_letters { fits (four "GRID") [] 0 ≡ true }
+{}
+
+/// What payloads say, field by field: that of a grid of 6 by 8 tiles, one of 256 by 255 with long sides
+/// and a byte behind them, and those of overlays, of which only the front is looked at.
+pub fn payloads_say_their_fields()
+    ensures grid { grid_at (hex_of "00000507 0fc00bd0") ≡ Some (record { rows = 6; columns = 8; width = 4032; height = 3024 }) }
+    ensures long_grid { grid_at (hex_of "00fffffe 00000507 0fc00bd0 aa") ≡ Some (record { rows = 256; columns = 255; width = 1287; height = 264244176 }) }
+    ensures no_grid { grid_at (hex_of "01000507 0fc00bd0") ≡ None }
+    ensures overlay { overlay_at 1 (hex_of "0000 0001000200030004 0fc00bd0 ffff0000") ≡ Some (record { long = false; width = 4032; height = 3024 }) }
+    ensures overlay_cut { overlay_at 1 (hex_of "0000 0001000200030004 0fc00bd0 ffff00") ≡ None }
+    ensures long_overlay { overlay_at 0 (hex_of "0003 0001000200030004 00000507 0fc00bd0") ≡ Some (record { long = true; width = 1287; height = 264244176 }) }
 {}
