@@ -4,6 +4,7 @@
 mod fault;
 mod four;
 mod front;
+mod id;
 mod ids;
 pub mod kinds;
 pub mod laws;
@@ -17,6 +18,7 @@ pub mod worked;
 pub use fault::{NoMemory, OpenFault, ReadRefusal};
 pub use four::{FourCc, four_at};
 pub use front::{front_kind, front_version, front8, front16, front24, front32, front64, split};
+pub use id::{front_id, id_width};
 pub use ids::Ids;
 pub use loc::{Extent, Extents, Loc, RefBox};
 pub use number::{be_put, be16, be32, be64};

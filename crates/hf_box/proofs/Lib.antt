@@ -4,9 +4,12 @@ pub mod Box
 pub mod Spelled
 pub mod Lists
 pub mod Faults
+pub mod InnerLemmas
 pub mod BoxLaws
 pub mod Walking
 pub mod HeadLemmas
 pub mod WalkLaws
 pub mod TableLaws
+pub mod TableLoop
 pub mod WorkedFile
+pub mod WrittenBoxes

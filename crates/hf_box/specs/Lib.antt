@@ -1,6 +1,7 @@
 pub mod Boxes
 pub mod Framing
 pub mod Head
+pub mod Inner
 pub mod Literals
 pub mod Walk
 pub mod Worked

@@ -38,11 +38,23 @@ fn cut<'a>(
     Ok((view, rest))
 }
 
-/// The box at the front, and the bytes behind it; Short, OpenSize or BadSize where there is none.
+/// The box at the front of the bytes, and the bytes behind it, with the place `at` of the first byte in
+/// the file. `top` says that the box is one of a file: there, and only there, it may have size 0 and
+/// reach the end (ISO/IEC 14496-12, Box).
+///
+/// Short comes where fewer than 8 bytes are left, or fewer than 16 with size 1; OpenSize for size 0
+/// where `top` is false; and BadSize for a size that is less than its header or passes the end.
 #[tactic(auto, unfolding(crate::specs::Framing::box_at))]
-fn first<'a>(bytes: &'a [u8], at: u64, top: bool) -> Result<(BoxView<'a>, &'a [u8]), ReadRefusal>
+pub fn front_box<'a>(
+    bytes: &'a [u8],
+    at: u64,
+    top: bool,
+) -> Result<(BoxView<'a>, &'a [u8]), ReadRefusal>
+    // The box and the bytes behind it, or why no box begins there.
     ensures exact { Reads (λ x. (box_of x.0, x.1.now)) result (box_at top at bytes.now) }
+    // It ends where the bytes behind it begin.
     ensures whole { IfOk result (λ x. end_of (box_of x.0) + length x.1.now ≡ at + length bytes.now) }
+    // It has a header.
     ensures shorter { IfOk result (λ x. length x.1.now + 8 ≤ length bytes.now) }
 {
     if bytes.len() < 8 {
@@ -81,7 +93,7 @@ fn frames_in<'a>(
         if boxes.len() == BOXES {
             return Err(OpenFault::Unfit(ReadRefusal::TooManyBoxes { at }));
         }
-        let (view, after) = first(rest, at, top)?;
+        let (view, after) = front_box(rest, at, top)?;
         at += (rest.len() - after.len()) as u64;
         rest = after;
         boxes.push(view)?;

@@ -21,6 +21,7 @@ use Rattle.hf_box.specs.Framing.{frames}
 use Rattle.hf_box.specs.Tables.{of_kind}
 use Rattle.hf_box.specs.Walk.{is_kind}
 use Rattle.hf_box.proofs.BoxLaws.{boxes_iff_frames, same_boxes}
+use Rattle.hf_box.proofs.InnerLemmas.{of_kind-length}
 use Rattle.hf_box.proofs.Lists.{boxes_read}
 use Rattle.hf_box.proofs.TableLaws.{boxes_again, boxes_take, bodies}
 use Rattle.hf_info.specs.declared.infe.Info.{Info as InfoView}
@@ -129,12 +130,8 @@ each_good (b ∷ bs) (i ∷ infos) h = (infe_good b.body i h.0, each_good bs inf
 pub iinf_good : (b : BoxAt) (infos : List Info) → IsIinf b infos → AllByRecursion IsGoodInfo infos
 iinf_good b infos r = each_good (of_kind INFE r.boxes) infos r.entries
 
-of_kind-length : (boxes : List BoxAt) → length (of_kind INFE boxes) ≤ length boxes
-of_kind-length [] = omega arith
-of_kind-length (b ∷ bs) = let more = of_kind-length bs in elim (cases_Bool (is_kind b.kind INFE)) [ inl t ↦ rw t (omega (arith, more)) | inr f ↦ rw f (omega (arith, more)) ]
-
 pub iinf_few : (b : BoxAt) (infos : List Info) → IsIinfWithin b infos → length infos ≤ BOXES
-iinf_few b infos (r, few) = omega (arith, AllZip-length IsInfeBox (of_kind INFE r.boxes) infos r.entries, of_kind-length r.boxes, few)
+iinf_few b infos (r, few) = omega (arith, AllZip-length IsInfeBox (of_kind INFE r.boxes) infos r.entries, of_kind-length INFE r.boxes, few)
 
 pub all_good : (b : BoxAt) (r : Result (Vec InfoView) OpenFault) → IfOk r (λ v. IsIinfWithin b (infos_of v.items)) → IfOk r (λ v. AllByRecursion IsGoodInfo (infos_of v.items))
 all_good b (Ok v) h = iinf_good b (infos_of v.items) h.0

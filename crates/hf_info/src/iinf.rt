@@ -5,24 +5,16 @@ ghost use Rattle.std.specs.List.{AllByRecursion};
 ghost use Rattle.hf_base.specs.Reading.{Gives, MatchOpen};
 ghost use Rattle.hf_base.specs.declared.kinds.TheConstants.{IINF as iinf, INFE as infe};
 ghost use Rattle.hf_base.specs.declared.limits.TheConstants.{BOXES};
-ghost use Rattle.hf_box.specs.Boxes.{BoxAt, box_of, boxes_of, end_of};
+ghost use Rattle.hf_box.specs.Boxes.{BoxAt, box_of, end_of};
 ghost use Rattle.hf_box.specs.Tables.{of_kind, boxes_from};
 ghost use Rattle.hf_info.specs.Infe.{Info as Stated, IsGoodInfo, infos_of};
 ghost use Rattle.hf_info.specs.Iinf.{AreSeen, IsIinfWithin, with_infe, iinf_at};
 
-use crate::id::{front_id, id_width};
 use crate::infe::{Info, infe_in};
 use hf_base::kinds::{IINF, INFE};
-use hf_base::{OpenFault, ReadRefusal, SeenIds, front_version};
-use hf_box::{BoxView, read_boxes};
+use hf_base::{OpenFault, ReadRefusal, SeenIds, front_id, front_version, id_width};
+use hf_box::{BoxView, InnerBoxes};
 use std::alloc::Global;
-
-/// Keeps the `infe` of these boxes alone.
-fn keep_infes(boxes: &mut Vec<BoxView<'_>>)
-    ensures { boxes_of boxes.new.items ≡ of_kind infe (boxes_of boxes.old.items) }
-{
-    boxes.retain(|b| b.kind == INFE);
-}
 
 /// Reads the entry in a box behind earlier ones, whose ids are those that were seen.
 #[tactic(auto, unfolding(crate::specs::Iinf::with_infe))]
@@ -43,14 +35,18 @@ fn push_infe<'a>(
     Ok(())
 }
 
-/// The entries in these boxes.
-fn infos_in<'a>(alloc: Global, boxes: &[BoxView<'a>]) -> Result<Vec<Info<'a>>, OpenFault>
-    ensures { Gives (λ v. infos_of v.items) result (boxes_from with_infe [] (boxes_of boxes.now)) }
+/// The entries in the `infe` of these boxes, of which there are so many.
+fn infos_in<'a>(
+    alloc: Global,
+    mut boxes: InnerBoxes<'a>,
+    many: usize,
+) -> Result<Vec<Info<'a>>, OpenFault>
+    ensures { Gives (λ v. infos_of v.items) result (boxes_from with_infe [] (of_kind infe boxes.entry)) }
 {
     let mut seen = SeenIds::new(alloc);
-    let mut infos = Vec::with_capacity(alloc, boxes.len())?;
-    for b in boxes {
-        push_infe(&mut infos, &mut seen, b)?;
+    let mut infos = Vec::with_capacity(alloc, many)?;
+    while let Some(b) = boxes.next_of(INFE) {
+        push_infe(&mut infos, &mut seen, &b)?;
     }
     Ok(infos)
 }
@@ -71,12 +67,12 @@ fn entries_in<'a>(
     let width = id_width(0, version, ReadRefusal::BadVersion { kind: IINF, at })?;
     let (count, rest) = front_id(width, rest, short)?;
     let origin = at + u64::from(head) + 4 + u64::from(width);
-    let mut boxes = read_boxes(alloc, rest, origin, false)?;
-    keep_infes(&mut boxes);
-    if boxes.len() as u64 != u64::from(count) {
+    let boxes = InnerBoxes::of(rest, origin)?;
+    let many = boxes.count_of(INFE);
+    if many as u64 != u64::from(count) {
         return Err(OpenFault::Unfit(short));
     }
-    infos_in(alloc, &boxes)
+    infos_in(alloc, boxes, many)
 }
 
 /// The same, of bytes.

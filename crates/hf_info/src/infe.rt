@@ -7,10 +7,9 @@ ghost use Rattle.hf_box.specs.Walk.{is_kind};
 ghost use Rattle.hf_info.specs.Texts.{text_at, behind_text};
 ghost use Rattle.hf_info.specs.Infe.{info_of, info_with as stated_with, infe_at};
 
-use crate::id::{front_id, id_width};
 use crate::text::front_text;
 use hf_base::kinds::{INFE, MIME, URI};
-use hf_base::{FourCc, ReadRefusal, front_kind, front_version, front16};
+use hf_base::{FourCc, ReadRefusal, front_id, front_kind, front_version, front16, id_width};
 
 /// What a file says of an item (ItemInfoEntry of ISO/IEC 14496-12). No string has a zero byte.
 #[derive(Clone, Copy, Debug)]

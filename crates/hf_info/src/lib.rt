@@ -1,7 +1,6 @@
 //! Item information: what a file says of its items, and their entries as they are written.
 #![tactic(auto)]
 
-mod id;
 mod iinf;
 mod infe;
 pub mod laws;

@@ -13,7 +13,7 @@ use Rattle.hf_box.specs.Written.{id_width}
 use Rattle.hf_box.proofs.HeadLemmas.{box-compact}
 use Rattle.hf_links.specs.Iref.{reference_body}
 use Rattle.hf_links.specs.Grpl.{Group, group_body}
-use Rattle.hf_links.proofs.WrittenBoxes.{length-ids}
+use Rattle.hf_box.proofs.WrittenBoxes.{length-ids}
 
 length-narrow : (from : ℕ) (to : List ℕ) → length (reference_body false from to) ≡ 4 + length to * 2
 unfolding reference_body

@@ -26,7 +26,7 @@ use Rattle.hf_box.proofs.BoxLaws.{boxes_iff_frames, same_boxes}
 use Rattle.hf_box.proofs.TableLaws.{boxes_again, boxes_take, bodies}
 use Rattle.hf_links.specs.declared.grpl.Group.{Group as GroupView}
 use Rattle.hf_links.specs.Grpl.{Group, groups_of, IsGroup, group_ids, group_rows, IsGrpl, IsGrplWithin, group_at, with_group, grpl_at, group_body, grpl_body, IsWritable}
-use Rattle.hf_links.proofs.WrittenBoxes.{ids_written, placed, HasSize, placed-framed, placed-each, length-placed}
+use Rattle.hf_box.proofs.WrittenBoxes.{ids_written, placed, HasSize, placed-framed, placed-each, length-placed}
 
 abbrev id_of : Group → ℕ
 id_of g = g.id

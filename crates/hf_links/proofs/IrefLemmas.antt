@@ -28,7 +28,7 @@ use Rattle.hf_box.proofs.Lists.{boxes_read}
 use Rattle.hf_box.proofs.BoxLaws.{boxes_iff_frames, same_boxes}
 use Rattle.hf_box.proofs.TableLaws.{boxes_again, boxes_take, bodies}
 use Rattle.hf_links.specs.Iref.{IsRefBox, link_rows, IsIref, IsIrefWithin, ref_box_at, with_ref_box, iref_at, reference_body, reference_box, iref_body, IsWritable}
-use Rattle.hf_links.proofs.WrittenBoxes.{ids_written, length-ids, placed, HasSize, placed-framed, placed-each, length-placed}
+use Rattle.hf_box.proofs.WrittenBoxes.{ids_written, length-ids, placed, HasSize, placed-framed, placed-each, length-placed}
 
 -- one more is not too many
 abbrev Goes : List RefBox → RefBox → Type 0

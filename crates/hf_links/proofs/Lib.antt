@@ -1,5 +1,3 @@
 pub mod Fronts
 pub mod GrplLemmas
 pub mod IrefLemmas
-pub mod TableLoop
-pub mod WrittenBoxes

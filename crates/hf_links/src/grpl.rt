@@ -6,7 +6,7 @@ ghost use Rattle.hf_base.specs.Number.{num};
 ghost use Rattle.hf_base.specs.Reading.{Gives, MatchOpen};
 ghost use Rattle.hf_base.specs.declared.kinds.TheConstants.{GRPL};
 ghost use Rattle.hf_base.specs.declared.limits.TheConstants.{META, ROWS};
-ghost use Rattle.hf_box.specs.Boxes.{BoxAt, box_of, boxes_of, end_of};
+ghost use Rattle.hf_box.specs.Boxes.{BoxAt, box_of, end_of};
 ghost use Rattle.hf_box.specs.Head.{box, box_len};
 ghost use Rattle.hf_box.specs.Tables.{boxes_from};
 ghost use Rattle.hf_desk.specs.Outside.{Outside};
@@ -21,7 +21,7 @@ use hf_base::{
     FourCc, Ids, NoMemory, OpenFault, ReadRefusal, SeenIds, TryClone, be_put, front_version,
     front32,
 };
-use hf_box::{BoxView, read_boxes};
+use hf_box::{BoxView, InnerBoxes};
 use hf_desk::{Desk, Page, Put, WriteFault};
 use std::alloc::Global;
 
@@ -70,7 +70,7 @@ fn group_in<'a>(alloc: Global, rows: usize, view: &BoxView<'a>) -> Result<Group<
     if rows + 1 + count as usize > ROWS {
         return Err(OpenFault::Unfit(ReadRefusal::TooLarge { kind: GRPL, at }));
     }
-    let (entities, tail) = front_ids(alloc, true, count, rest, short)?;
+    let (entities, tail) = front_ids(alloc, 4, count, rest, short)?;
     Ok(Group {
         kind: view.kind,
         version,
@@ -81,15 +81,15 @@ fn group_in<'a>(alloc: Global, rows: usize, view: &BoxView<'a>) -> Result<Group<
     })
 }
 
-/// The groups of all inner boxes.
-fn groups_in<'a>(alloc: Global, views: &[BoxView<'a>]) -> Result<Vec<Group<'a>>, OpenFault>
-    ensures { Gives (λ groups. groups_of groups.items) result (boxes_from with_group [] (boxes_of views.now)) }
+/// The groups of all these boxes.
+fn groups_in<'a>(alloc: Global, mut boxes: InnerBoxes<'a>) -> Result<Vec<Group<'a>>, OpenFault>
+    ensures { Gives (λ groups. groups_of groups.items) result (boxes_from with_group [] boxes.entry) }
 {
-    let mut groups = Vec::with_capacity(alloc, views.len())?;
+    let mut groups = Vec::with_capacity(alloc, boxes.len())?;
     let mut seen = SeenIds::new(alloc);
     let mut rows = 0;
-    for view in views {
-        let group = group_in(alloc, rows, view)?;
+    while let Some(view) = boxes.next() {
+        let group = group_in(alloc, rows, &view)?;
         let id = group.id;
         if !seen.meet(id)? {
             return Err(OpenFault::Unfit(ReadRefusal::DoubleGroup { id }));
@@ -106,8 +106,8 @@ fn groups_of_box<'a>(alloc: Global, view: &BoxView<'a>) -> Result<Vec<Group<'a>>
     requires { end_of (box_of view.now) < 2 ^ 64 }
     ensures { Gives (λ groups. groups_of groups.items) result (grpl_at (box_of view.now)) }
 {
-    let views = read_boxes(alloc, view.body, view.at + u64::from(view.head), false)?;
-    groups_in(alloc, &views)
+    let boxes = InnerBoxes::of(view.body, view.at + u64::from(view.head))?;
+    groups_in(alloc, boxes)
 }
 
 /// The same, of a body of bytes.

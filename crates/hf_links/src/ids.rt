@@ -1,49 +1,34 @@
 //! Ids one behind the other, as they are read and as they are written.
 
-ghost use Rattle.std.specs.Prelude.{◌≡◌, ◌<◌, ◌^◌, true, false, length, IfOk, All};
+ghost use Rattle.std.specs.Prelude.{◌≡◌, ◌⊎◌, ◌<◌, ◌^◌, true, false, length, IfOk, All};
 ghost use Rattle.std.specs.List.{flat_map};
 ghost use Rattle.hf_base.specs.Number.{num};
-ghost use Rattle.hf_base.specs.Reading.{Reads, Gives, front, times};
+ghost use Rattle.hf_base.specs.Reading.{Gives, front, times};
 ghost use Rattle.hf_box.specs.Written.{id_width};
 ghost use Rattle.hf_desk.specs.Outside.{Outside};
 ghost use Rattle.hf_desk.specs.Pages.{ByPut, Gives as GivesTo};
 
-use hf_base::{Ids, OpenFault, ReadRefusal, be_put, front16, front32};
+use hf_base::{Ids, OpenFault, ReadRefusal, be_put, front_id};
 use hf_desk::{Desk, Page, Put, WriteFault};
 use std::alloc::Global;
 
-/// The id at the front, in four bytes where `wide` and otherwise in two, and the bytes after it;
-/// `short` where they are too few.
-pub fn front_id<'a>(
-    wide: bool,
-    bytes: &'a [u8],
-    short: ReadRefusal,
-) -> Result<(u32, &'a [u8]), ReadRefusal>
-    ensures { Reads (λ x. (x.0, x.1.now)) result (front (id_width wide) short bytes.now) }
-{
-    if wide {
-        return front32(bytes, short);
-    }
-    let (id, rest) = front16(bytes, short)?;
-    Ok((u32::from(id), rest))
-}
-
-/// So many ids, one behind the other, and the bytes after them. Memory is asked for as they are read,
-/// so that a count which the bytes cannot hold asks for none.
+/// So many ids of `width` bytes, one behind the other, and the bytes after them. Memory is asked for as
+/// they are read, so that a count which the bytes cannot hold asks for none.
 pub fn front_ids<'a>(
     alloc: Global,
-    wide: bool,
+    width: u8,
     count: u32,
     bytes: &'a [u8],
     short: ReadRefusal,
 ) -> Result<(Ids, &'a [u8]), OpenFault>
-    ensures exact { Gives (λ x. (x.0, x.1.now)) result (times (front (id_width wide) short) count bytes.now) }
+    requires { (width ≡ 2) ⊎ (width ≡ 4) }
+    ensures exact { Gives (λ x. (x.0, x.1.now)) result (times (front width short) count bytes.now) }
     ensures count { IfOk result (λ x. length x.0 ≡ count) }
 {
     let mut ids = Ids::new(alloc);
     let mut rest = bytes;
     for _ in 0..count {
-        let (id, after) = front_id(wide, rest, short)?;
+        let (id, after) = front_id(width, rest, short)?;
         ids.push(id)?;
         rest = after;
     }

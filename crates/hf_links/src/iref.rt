@@ -1,57 +1,48 @@
 //! `iref`: ItemReferenceBox of ISO/IEC 14496-12.
 
-ghost use Rattle.std.specs.Prelude.{◌≡◌, ◌<◌, ◌≤◌, ◌+◌, ◌^◌, ◌++◌, ℕ, List, [], true, false, length, IfOk, All};
+ghost use Rattle.std.specs.Prelude.{◌≡◌, ◌⊎◌, ◌<◌, ◌≤◌, ◌+◌, ◌^◌, ◌++◌, ℕ, List, [], true, false, length, IfOk, All};
 ghost use Rattle.std.specs.List.{flat_map};
 ghost use Rattle.hf_base.specs.Number.{num};
-ghost use Rattle.hf_base.specs.Reading.{Reads, Gives, MatchOpen};
-ghost use Rattle.hf_base.specs.Entries.{id_width_at};
-ghost use Rattle.hf_base.specs.declared.fault.ReadRefusal.TheVariants.{BadVersion};
+ghost use Rattle.hf_base.specs.Reading.{Gives, MatchOpen};
 ghost use Rattle.hf_base.specs.declared.kinds.TheConstants.{IREF};
 ghost use Rattle.hf_base.specs.declared.limits.TheConstants.{LINKS, ROWS};
 ghost use Rattle.hf_base.specs.declared.loc.RefBox.{RefBox as Stated};
-ghost use Rattle.hf_box.specs.Boxes.{BoxAt, box_of, boxes_of, end_of};
+ghost use Rattle.hf_box.specs.Boxes.{BoxAt, box_of, end_of};
 ghost use Rattle.hf_box.specs.Head.{box};
 ghost use Rattle.hf_box.specs.Tables.{boxes_from};
-ghost use Rattle.hf_box.specs.Written.{id_width};
+ghost use Rattle.hf_box.specs.Written.{id_width as written_width};
 ghost use Rattle.hf_desk.specs.Outside.{Outside};
 ghost use Rattle.hf_desk.specs.Calls.{Puts};
 ghost use Rattle.hf_desk.specs.Pages.{ByPut, Gives as GivesTo};
 ghost use Rattle.hf_links.specs.Iref.{IsIrefWithin, iref_at, reference_body, ref_box_at, with_ref_box};
 
-use crate::ids::{front_id, front_ids, give_ids};
+use crate::ids::{front_ids, give_ids};
 use hf_base::kinds::IREF;
 use hf_base::limits::ROWS;
-use hf_base::{FourCc, Ids, OpenFault, ReadRefusal, RefBox, be_put, front_version, front16};
-use hf_box::{BoxView, read_boxes};
+use hf_base::{
+    FourCc, Ids, OpenFault, ReadRefusal, RefBox, be_put, front_id, front_version, front16, id_width,
+};
+use hf_box::{BoxView, InnerBoxes};
 use hf_desk::{Desk, Page, Put, WriteFault};
 use std::alloc::Global;
 
-/// Whether ids take four bytes in this version, with the place of the box.
-fn is_wide(version: u8, at: u64) -> Result<bool, ReadRefusal>
-    ensures { Reads (λ wide. id_width wide) result (id_width_at 0 (BadVersion IREF at) version) }
-{
-    match version {
-        0 => Ok(false),
-        1 => Ok(true),
-        _ => Err(ReadRefusal::BadVersion { kind: IREF, at }),
-    }
-}
-
-/// The references of an inner box (SingleItemTypeReferenceBox), behind so many rows.
+/// The references of an inner box (SingleItemTypeReferenceBox) with ids of `width` bytes, behind so many
+/// rows.
 #[tactic(auto, unfolding(crate::specs::Iref::ref_box_at))]
-fn link_in(alloc: Global, wide: bool, rows: usize, view: &BoxView<'_>) -> Result<RefBox, OpenFault>
-    requires { rows ≤ ROWS }
-    ensures exact { Gives (λ r. r) result (ref_box_at (id_width wide) rows (box_of view.now)) }
+fn link_in(alloc: Global, width: u8, rows: usize, view: &BoxView<'_>) -> Result<RefBox, OpenFault>
+    requires width { (width ≡ 2) ⊎ (width ≡ 4) }
+    requires rows { rows ≤ ROWS }
+    ensures exact { Gives (λ r. r) result (ref_box_at width rows (box_of view.now)) }
     ensures within { IfOk result (λ r. rows + 1 + length r.to ≤ ROWS) }
 {
     let at = view.at;
     let short = ReadRefusal::BadRecord { kind: IREF, at };
-    let (from, rest) = front_id(wide, view.body, short)?;
+    let (from, rest) = front_id(width, view.body, short)?;
     let (count, rest) = front16(rest, short)?;
     if rows + 1 + count as usize > ROWS {
         return Err(OpenFault::Unfit(ReadRefusal::TooLarge { kind: IREF, at }));
     }
-    let (to, _) = front_ids(alloc, wide, count as u32, rest, short)?;
+    let (to, _) = front_ids(alloc, width, count as u32, rest, short)?;
     Ok(RefBox {
         kind: view.kind,
         from,
@@ -59,14 +50,15 @@ fn link_in(alloc: Global, wide: bool, rows: usize, view: &BoxView<'_>) -> Result
     })
 }
 
-/// The references of all inner boxes.
-fn links_in(alloc: Global, wide: bool, views: &[BoxView<'_>]) -> Result<Vec<RefBox>, OpenFault>
-    ensures { Gives (λ links. links.items) result (boxes_from (with_ref_box (id_width wide)) [] (boxes_of views.now)) }
+/// The references of all these boxes, with ids of `width` bytes.
+fn links_in(alloc: Global, width: u8, mut boxes: InnerBoxes<'_>) -> Result<Vec<RefBox>, OpenFault>
+    requires { (width ≡ 2) ⊎ (width ≡ 4) }
+    ensures { Gives (λ links. links.items) result (boxes_from (with_ref_box width) [] boxes.entry) }
 {
-    let mut links = Vec::with_capacity(alloc, views.len())?;
+    let mut links = Vec::with_capacity(alloc, boxes.len())?;
     let mut rows = 0;
-    for view in views {
-        let link = link_in(alloc, wide, rows, view)?;
+    while let Some(view) = boxes.next() {
+        let link = link_in(alloc, width, rows, &view)?;
         rows += 1 + link.to.len();
         links.push(link)?;
     }
@@ -82,9 +74,9 @@ fn links_of(alloc: Global, view: &BoxView<'_>) -> Result<Vec<RefBox>, OpenFault>
     let at = view.at;
     let short = ReadRefusal::BadRecord { kind: IREF, at };
     let (version, _flags, inner) = front_version(view.body, short)?;
-    let wide = is_wide(version, at)?;
-    let views = read_boxes(alloc, inner, at + u64::from(view.head) + 4, false)?;
-    links_in(alloc, wide, &views)
+    let width = id_width(0, version, ReadRefusal::BadVersion { kind: IREF, at })?;
+    let boxes = InnerBoxes::of(inner, at + u64::from(view.head) + 4)?;
+    links_in(alloc, width, boxes)
 }
 
 /// The same, of a body of bytes.
@@ -166,8 +158,8 @@ fn give_front<D: Desk>(
 ) -> Result<(), WriteFault>
     requires creating { (D.outside desk.old).creating ≡ true }
     requires count { count ≤ LINKS }
-    requires from { from < 256 ^ id_width wide }
-    ensures { (front : List ℕ) × GivesTo ByPut (D.outside desk.old) page.old front result (D.outside desk.new) page.new × ((to : List ℕ) → length to ≡ count → front ++ flat_map (λ id. num id (id_width wide)) to ≡ box kind (reference_body wide from to)) }
+    requires from { from < 256 ^ written_width wide }
+    ensures { (front : List ℕ) × GivesTo ByPut (D.outside desk.old) page.old front result (D.outside desk.new) page.new × ((to : List ℕ) → length to ≡ count → front ++ flat_map (λ id. num id (written_width wide)) to ≡ box kind (reference_body wide from to)) }
 {
     if wide {
         return page.give(&wide_front(kind, from, count), desk);
@@ -189,7 +181,7 @@ pub fn give_ref<D: Desk>(
 ) -> Result<(), WriteFault>
     requires creating { (D.outside desk.old).creating ≡ true }
     requires count { length to.now ≤ LINKS }
-    requires from { from < 256 ^ id_width wide }
+    requires from { from < 256 ^ written_width wide }
     requires fits { wide ≡ false → All (λ id. id < 256 ^ 2) to.now }
     ensures { GivesTo ByPut (D.outside desk.old) page.old (box kind (reference_body wide from to.now)) result (D.outside desk.new) page.new }
 {
@@ -208,7 +200,7 @@ pub fn put_ref<D: Desk>(
 ) -> Result<(), WriteFault>
     requires creating { (D.outside desk.old).creating ≡ true }
     requires count { length to.now ≤ LINKS }
-    requires from { from < 256 ^ id_width wide }
+    requires from { from < 256 ^ written_width wide }
     requires fits { wide ≡ false → All (λ id. id < 256 ^ 2) to.now }
     ensures { Puts (D.outside desk.old) (box kind (reference_body wide from to.now)) result (D.outside desk.new) }
 {

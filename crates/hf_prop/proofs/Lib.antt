@@ -2,6 +2,5 @@ pub mod IpmaLemmas
 pub mod IprpLemmas
 pub mod KindLemmas
 pub mod LoopLemmas
-pub mod TableLoop
 pub mod ViewLemmas
 pub mod WrittenLemmas

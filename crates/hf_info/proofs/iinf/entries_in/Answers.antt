@@ -18,8 +18,8 @@ overflow_add-origin-3 c =
     let count = front_len c.in_ok-width.width (BadRecord IINF c.args.at) v.rest.now (n.count, n.rest.now) n.ensures in
     omega (arith, full, count, c.from.ensures, c.from-2.ensures, c.requires)
 
-pub read_boxes-requires : goal.read_boxes-requires
-read_boxes-requires c =
+pub of-requires : goal.of-requires
+of-requires c =
     let v = c.in_ok-version in
     let n = c.in_ok-count in
     let full = full_len (BadRecord IINF c.args.at) c.args.body.now ((v.version, v._flags), v.rest.now) v.ensures in

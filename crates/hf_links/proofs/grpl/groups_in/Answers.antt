@@ -6,39 +6,31 @@ use Rattle.std.proofs.lemmas.Result.{err_from_is_err_and}
 use Rattle.hf_base.specs.Entries.{has_id}
 use Rattle.hf_base.specs.declared.fault.OpenFault.TheVariants.{Unfit}
 use Rattle.hf_base.specs.declared.fault.ReadRefusal.TheVariants.{DoubleGroup}
-use Rattle.hf_box.specs.Tables.{boxes_from}
-use Rattle.hf_box.specs.Boxes.{boxes_of}
 use Rattle.hf_links.specs.Grpl.{Group, group_of, groups_of, with_group, group_ids}
-use Rattle.hf_links.proofs.TableLoop.{box_more, box_stops, boxes_done, gives_fault}
+use Rattle.hf_box.proofs.TableLoop.{box_more, box_stops, boxes_done, gives_fault}
 use Rattle.hf_links.proofs.GrplLemmas.{one_more, stops, met_again, has-push}
 use Rattle.hf_links.proofs.grpl.groups_in.Goals as goal
 
 pub returns-in_err-group : goal.returns-in_err-group
 returns-in_err-group c =
     let groups = groups_of c.loop-view.groups.items in
-    let views = c.args.views.now in
-    let total = boxes_from with_group [] (boxes_of views) in
     let p = err_from_is_err_and c.from_residual-in_err-group.result c.from_residual-in_err-group.ensures.1 in
     let fault = c.in_err-group.field-0.0 in
     let h = stops c.loop-view.rows groups _ fault c.loop-view.invariant.rows c.in_err-group.ensures.exact in
-    gives_fault (λ groups. groups_of groups.items) c.from_residual-in_err-group.result p.0 fault total p.1 p.2 (box_stops with_group groups views c.loop-view.view-index total _ fault c.loop-view-test.true h c.loop-view.invariant.read)
+    gives_fault (λ groups. groups_of groups.items) c.from_residual-in_err-group.result p.0 fault _ p.1 p.2 (box_stops with_group groups c.loop-view.boxes _ _ _ fault c.in-Some.ensures.some h c.loop-view.invariant.read)
 
 pub returns-then-not-branch : goal.returns-then-not-branch
 returns-then-not-branch c =
     let groups = groups_of c.loop-view.groups.items in
-    let views = c.args.views.now in
-    let total = boxes_from with_group [] (boxes_of views) in
     let group = group_of c.in_ok-group.group in
     let met : has_id group.id c.loop-view.seen ≡ true = grind (arith, common_steps, c.in_ok-meet.ensures.first, c.if-not-branch.true) in
     let old : has_id group.id (group_ids groups) ≡ true = sym (c.loop-view.invariant.seen group.id) ∙ met in
     let h = met_again c.loop-view.rows groups _ group c.loop-view.invariant.rows c.in_ok-group.ensures.exact old in
-    box_stops with_group groups views c.loop-view.view-index total _ (Unfit (DoubleGroup group.id)) c.loop-view-test.true h c.loop-view.invariant.read
+    box_stops with_group groups c.loop-view.boxes _ _ _ (Unfit (DoubleGroup group.id)) c.in-Some.ensures.some h c.loop-view.invariant.read
 
 pub loop-view-preserved : goal.loop-view-preserved
 loop-view-preserved c =
     let groups = groups_of c.loop-view.groups.items in
-    let views = c.args.views.now in
-    let total = boxes_from with_group [] (boxes_of views) in
     let group = group_of c.in_ok-group.group in
     let pushed : groups_of c.push.new.self.items ≡ groups ++ group ∷ [] = rw c.in_ok-push.ensures.items (map_push _ c.loop-view.groups.items c.in_ok-group.group) in
     let unmet : has_id group.id c.loop-view.seen ≡ false = grind (arith, common_steps, c.in_ok-meet.ensures.first, c.if-not-branch.false) in
@@ -46,13 +38,11 @@ loop-view-preserved c =
     let h = one_more c.loop-view.rows groups _ group c.loop-view.invariant.rows c.in_ok-group.ensures.exact new in
     let sum = sum_by_push (λ (g : Group). 1 + length g.entities) groups group in
     record {
-      read = rw pushed (box_more with_group groups views c.loop-view.view-index total _ (groups ++ group ∷ []) c.loop-view-test.true h c.loop-view.invariant.read);
+      read = rw pushed (box_more with_group groups c.loop-view.boxes _ _ _ (groups ++ group ∷ []) c.in-Some.ensures.some h c.loop-view.invariant.read);
       seen = λ q. rw (pushed, has-push q groups group, ← c.loop-view.invariant.seen q) (c.in_ok-meet.ensures.met q);
-      rows = rw pushed (omega (arith, sum, c.loop-view.invariant.rows, c.len.ensures));
-      few = omega (arith, c.in_ok-group.ensures.within, c.len.ensures);
+      rows = rw pushed (omega (arith, sum, c.loop-view.invariant.rows, c.len-in-Some.ensures));
+      few = omega (arith, c.in_ok-group.ensures.within, c.len-in-Some.ensures);
     }
 
 pub returns : goal.returns
-returns c =
-    let views = c.args.views.now in
-    boxes_done with_group (groups_of c.loop-view.groups.items) views c.loop-view.view-index (boxes_from with_group [] (boxes_of views)) (omega (arith, c.loop-view-test.false)) c.loop-view.invariant.read
+returns c = boxes_done with_group (groups_of c.loop-view.groups.items) c.loop-view.boxes _ c.in_default.ensures.none c.loop-view.invariant.read

@@ -2,18 +2,17 @@ use Rattle.std.proofs.Common.{◌-◌, ◌+◌, ◌∷◌, [], arith, length-app
 use Rattle.std.proofs.lemmas.Result.{err_from_is_err_and}
 use Rattle.hf_base.specs.Reading.{front, times}
 use Rattle.hf_base.specs.TimesLaws.{goes_on, stops, is_done}
-use Rattle.hf_box.specs.Written.{id_width}
 use Rattle.hf_links.proofs.ids.front_ids.Goals as goal
 
 pub returns-in_err-id-clause-exact : goal.returns-in_err-id-clause-exact
 returns-in_err-id-clause-exact c =
     let p = err_from_is_err_and c.from_residual.result c.from_residual.ensures.1 in
-    let read = front (id_width c.args.wide) c.args.short in
+    let read = front c.args.width c.args.short in
     rw (p.1, p.2) (stops read c.loop.ids (c.args.count - c.loop.counter) (c.args.count - (c.loop.counter + 1)) c.loop.rest.now c.in_err-id.field-0.0 (times read c.args.count c.args.bytes.now) (omega arith) c.in_err-id.ensures c.loop.invariant.read)
 
 pub loop-preserved : goal.loop-preserved
 loop-preserved c =
-    let read = front (id_width c.args.wide) c.args.short in
+    let read = front c.args.width c.args.short in
     let id = c.in_ok-id.id in
     let pushed = c.in_ok-push.ensures.pushed in
     record {
@@ -23,5 +22,5 @@ loop-preserved c =
 
 pub returns-clause-exact : goal.returns-clause-exact
 returns-clause-exact c =
-    let read = front (id_width c.args.wide) c.args.short in
+    let read = front c.args.width c.args.short in
     is_done read c.loop.ids (c.args.count - c.loop.counter) c.loop.rest.now (times read c.args.count c.args.bytes.now) (omega arith) c.loop.invariant.read

@@ -10,8 +10,8 @@ overflow_add-at-2 c =
     let len = length-behind (BadRecord IREF c.args.view.now.at) c.args.view.now.body.now ((v.version, v._flags), v.inner.now) v.ensures in
     omega (arith, len, c.requires, c.from.ensures)
 
-pub read_boxes-requires : goal.read_boxes-requires
-read_boxes-requires c =
+pub of-requires : goal.of-requires
+of-requires c =
     let v = c.in_ok-version in
     let len = length-behind (BadRecord IREF c.args.view.now.at) c.args.view.now.body.now ((v.version, v._flags), v.inner.now) v.ensures in
     omega (arith, len, c.requires, c.from.ensures)

@@ -1,14 +1,15 @@
 //! Ids that take two bytes in one version of a box, and four in the next one.
 
 ghost use Rattle.std.specs.Prelude.{◌≡◌, ◌⊎◌, ◌+◌, ◌<◌, IfOk};
-ghost use Rattle.hf_base.specs.Reading.{Reads, front};
 ghost use Rattle.hf_base.specs.Entries.{id_width_at};
+ghost use Rattle.hf_base.specs.Reading.{Reads, front};
 
-use hf_base::{ReadRefusal, front16, front32};
+use crate::fault::ReadRefusal;
+use crate::front::{front16, front32};
 
-/// How many bytes ids take in this version, where they take two in version `first` and four in the
-/// next one; `bad` for every other version.
-pub(crate) fn id_width(first: u8, version: u8, bad: ReadRefusal) -> Result<u8, ReadRefusal>
+/// How many bytes ids take in this version of a box, 2 or 4, where they take two in version `first`
+/// and four in the next one; `bad` for every other version.
+pub fn id_width(first: u8, version: u8, bad: ReadRefusal) -> Result<u8, ReadRefusal>
     requires { first + 1 < 256 }
     ensures width { IfOk result (λ width. (width ≡ 2) ⊎ (width ≡ 4)) }
     ensures exact { Reads (λ width. width) result (id_width_at first bad version) }
@@ -22,8 +23,9 @@ pub(crate) fn id_width(first: u8, version: u8, bad: ReadRefusal) -> Result<u8, R
     Err(bad)
 }
 
-/// The number in the first `width` bytes, two or four, and the bytes behind them.
-pub(crate) fn front_id<'a>(
+/// The id in the first `width` bytes, two or four of them, and the bytes after it; `short` where they
+/// are too few.
+pub fn front_id<'a>(
     width: u8,
     bytes: &'a [u8],
     short: ReadRefusal,
