@@ -190,7 +190,7 @@ one_of n one = grind (arith, nat_tests)
 zero_of : (n : ℕ) → (n == 0) ≡ true → ((n == 2) ≡ false) × ((n == 1) ≡ false)
 zero_of n none = (grind (arith, nat_tests), grind (arith, nat_tests))
 
-within_limit : (limit total : ℕ) (why : ℕ → ReadRefusal) → total ≤ limit → limited limit why total ≡ Ok tt
+pub within_limit : (limit total : ℕ) (why : ℕ → ReadRefusal) → total ≤ limit → limited limit why total ≡ Ok tt
 within_limit limit total why few = let t : nat_lt limit total ≡ false = le-ltb limit total few in rw t refl
 
 ends_fine : (items : List Located) (r : Located) → ends items r ≡ true → is_endless items r ≡ false
@@ -245,7 +245,7 @@ no_fault F idat items placed = let each = placed.each in fine_parts F idat items
   small = within_limit BODY _ (λ total. TooManyBytes total) placed.small;
 })
 
-limit_kept : (limit total : ℕ) (why : ℕ → ReadRefusal) → limited limit why total ≡ Ok tt → total ≤ limit
+pub limit_kept : (limit total : ℕ) (why : ℕ → ReadRefusal) → limited limit why total ≡ Ok tt → total ≤ limit
 limit_kept limit total why fine = elim (either (nat_lt limit total)) [
   | inl over ↦ (let e = rw over at fine in absurd (cc))
   | inr within ↦ grind (arith, nat_tests)

@@ -1,6 +1,7 @@
 pub mod BytesLaws
 pub mod ChainLaws
 pub mod Converse
+pub mod DoublingLaws
 pub mod FaultLaws
 pub mod LevelLaws
 pub mod Meeting

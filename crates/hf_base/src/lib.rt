@@ -1,6 +1,7 @@
 //! Numbers, limits and refusals, and the fields that every reader begins with.
 #![tactic(auto)]
 
+pub mod chain_laws;
 mod fault;
 mod four;
 mod front;
