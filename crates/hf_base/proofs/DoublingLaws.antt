@@ -36,12 +36,12 @@ with_front id (z ∷ zs) ys x e = elim (either (z.id == id)) [
       let f : item_with id (z ∷ zs) ≡ Some z = rw same refl in
       let g : item_with id ((z ∷ zs) ++ ys) ≡ Some z = rw same refl in
       g ∙ sym f ∙ e
-    )
+      )
   | inr other ↦ (
       let f : item_with id (z ∷ zs) ≡ item_with id zs = rw other refl in
       let g : item_with id ((z ∷ zs) ++ ys) ≡ item_with id (zs ++ ys) = rw other refl in
       g ∙ with_front id zs ys x (sym f ∙ e)
-    )
+      )
 ]
 
 with_back : (id : ℕ) (xs ys : List Located) → item_with id xs ≡ None → item_with id (xs ++ ys) ≡ item_with id ys
@@ -52,7 +52,7 @@ with_back id (z ∷ zs) ys e = elim (either (z.id == id)) [
       let f : item_with id (z ∷ zs) ≡ item_with id zs = rw other refl in
       let g : item_with id ((z ∷ zs) ++ ys) ≡ item_with id (zs ++ ys) = rw other refl in
       g ∙ with_back id zs ys (sym f ∙ e)
-    )
+      )
 ]
 
 only_other : (id : ℕ) (x : Located) → (x.id == id) ≡ false → item_with id (x ∷ []) ≡ None
@@ -100,14 +100,14 @@ unfolding doubled
 doubled_in inner long zero r is = absurd is
 doubled_in inner long (suc n) r is = elim (in_joined r (doubled inner long n) (doubled_item inner long n ∷ []) is) [
   | inl earlier ↦ (let found = doubled_in inner long n r earlier in let less : found.0 < n = found.1 in (found.0, (omega arith), found.2))
-  | inr last ↦ elim last [ | inl same ↦ (n, (omega arith), same) | inr none ↦ absurd none ]
+  | inr last ↦ elim last [ inl same ↦ (n, (omega arith), same) | inr none ↦ absurd none ]
 ]
 
 none_of : (has : Located → Bool) (why : ℕ → ReadRefusal) (inner : Bool) (long : ℕ → ℕ) (n : ℕ) → ((k : ℕ) → k < n → has (doubled_item inner long k) ≡ false) → refused why (first_with has (doubled inner long n)) ≡ Ok tt
 none_of has why inner long n each =
     none_refused has why (doubled inner long n) (λ r is.
-      let found = doubled_in inner long n r is in
-      ap has (sym found.2) ∙ each found.0 found.1)
+    let found = doubled_in inner long n r is in
+    ap has (sym found.2) ∙ each found.0 found.1)
 
 twice : (k : ℕ) → sum (2 ^ k ∷ 2 ^ k ∷ []) ≡ 2 ^ suc k
 twice k =
@@ -124,7 +124,7 @@ total f inner long (suc n) each =
     let earlier = total f inner long n (λ k less. each k (omega arith)) in
     let last : f (doubled_item inner long n) ≡ 2 ^ n = each n (omega arith) in
     let parts : sum (map f (doubled inner long n ++ doubled_item inner long n ∷ [])) ≡ sum (map f (doubled inner long n)) + sum (f (doubled_item inner long n) ∷ []) =
-      ap sum (map-append f (doubled inner long n) (doubled_item inner long n ∷ [])) ∙ sum_by-append (λ m. m) (map f (doubled inner long n)) (f (doubled_item inner long n) ∷ []) in
+    ap sum (map-append f (doubled inner long n) (doubled_item inner long n ∷ [])) ∙ sum_by-append (λ m. m) (map f (doubled inner long n)) (f (doubled_item inner long n) ∷ []) in
     let one : sum (f (doubled_item inner long n) ∷ []) ≡ f (doubled_item inner long n) + sum [] = sum_by-cons (λ m. m) (f (doubled_item inner long n)) [] in
     let none : sum [] ≡ 0 = refl in
     let p = pow-suc 2 n in
@@ -142,7 +142,7 @@ ends_at inner long n zero k deep less = absurd (omega arith)
 ends_at inner long n (suc m) zero deep less = ends_first inner (doubled inner long n) (over false (ends_in (doubled inner long n)) m)
 ends_at inner long n (suc m) (suc k) deep less =
     let one : told false (over false (ends_in (doubled inner long n)) m) (item_with (suc k) (doubled inner long n)) ≡ true =
-      ap (told false (over false (ends_in (doubled inner long n)) m)) (doubled_at inner long n k (omega arith)) ∙ ends_at inner long n m k (omega arith) (omega arith) in
+    ap (told false (over false (ends_in (doubled inner long n)) m)) (doubled_at inner long n k (omega arith)) ∙ ends_at inner long n m k (omega arith) (omega arith) in
     ap (λ (b : Bool). b && (b && true)) one
 
 leaves_first : (inner : Bool) (items : List Located) (other : Located → ℕ) → leaves_in items other (first_item inner) ≡ 1
@@ -155,7 +155,7 @@ leaves_at inner long n zero k deep less = absurd (omega arith)
 leaves_at inner long n (suc m) zero deep less = leaves_first inner (doubled inner long n) (over 0 (leaves_in (doubled inner long n)) m)
 leaves_at inner long n (suc m) (suc k) deep less =
     let one : told 0 (over 0 (leaves_in (doubled inner long n)) m) (item_with (suc k) (doubled inner long n)) ≡ 2 ^ k =
-      ap (told 0 (over 0 (leaves_in (doubled inner long n)) m)) (doubled_at inner long n k (omega arith)) ∙ leaves_at inner long n m k (omega arith) (omega arith) in
+    ap (told 0 (over 0 (leaves_in (doubled inner long n)) m)) (doubled_at inner long n k (omega arith)) ∙ leaves_at inner long n m k (omega arith) (omega arith) in
     ap (λ (x : ℕ). sum (x ∷ x ∷ [])) one ∙ twice k
 
 length_is : (inner : Bool) (long : ℕ → ℕ) (n : ℕ) → length (doubled inner long n) ≡ n

@@ -4,4 +4,5 @@ pub mod Converse
 pub mod DoublingLaws
 pub mod FaultLaws
 pub mod LevelLaws
+pub mod LengthLaws
 pub mod Meeting

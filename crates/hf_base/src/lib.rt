@@ -15,6 +15,7 @@ mod number;
 mod seen;
 mod series;
 pub mod worked;
+pub mod worked_locations;
 
 pub use fault::{NoMemory, OpenFault, ReadRefusal};
 pub use four::{FourCc, four_at};

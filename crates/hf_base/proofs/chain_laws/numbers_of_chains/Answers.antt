@@ -5,7 +5,7 @@ use Rattle.hf_base.proofs.DoublingLaws.{few_leaves, too_many_leaves, past_idat, 
 use Rattle.hf_base.proofs.chain_laws.numbers_of_chains.Goals as goal
 
 some_bytes : (k : ℕ) → 0 < (if nat_lt k 39 then 2 ^ k else 1)
-some_bytes k = let p = pow_pos k in elim (either (nat_lt k 39)) [ | inl low ↦ rw low p | inr high ↦ rw high (omega arith) ]
+some_bytes k = let p = pow_pos k in elim (either (nat_lt k 39)) [ inl low ↦ rw low p | inr high ↦ rw high (omega arith) ]
 
 pub returns : goal.returns
 returns c = record {
