@@ -2,6 +2,7 @@ pub mod Alike
 pub mod Lists
 pub mod Makes
 pub mod Numbers
+pub mod Others
 pub mod Sets
 pub mod Tables
 pub mod Tally

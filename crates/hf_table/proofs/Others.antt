@@ -1,0 +1,20 @@
+-- The properties of items that are not listed, where the items are gone through from the first on.
+use Rattle.std.proofs.Common.{◌≡◌, ℕ, Bool, true, false, not, cond, List, [], ◌∷◌, ◌++◌, ap, ◌∙◌}
+use Rattle.std.specs.List.{flat_map}
+use Rattle.std.proofs.lemmas.List.{append-nil}
+use Rattle.std.proofs.lemmas.List.Elements.{filter-append}
+use Rattle.std.proofs.lemmas.Grind.{flat_map-append}
+use Rattle.hf_prop.specs.declared.prop.Prop.{Prop}
+use Rattle.hf_table.specs.Held.{is_among, others, props_of_others}
+
+module _ {A : Type 0} (id_of : A → ℕ) (props_of : A → List Prop) (ids : List ℕ) where
+  pub others-join : (xs ys : List A) → props_of_others id_of props_of ids (xs ++ ys) ≡ props_of_others id_of props_of ids xs ++ props_of_others id_of props_of ids ys
+  others-join xs ys =
+      ap (λ l. flat_map props_of l) (filter-append (λ (i : A). not (is_among ids (id_of i))) xs ys)
+      ∙ flat_map-append props_of (others id_of ids xs) (others id_of ids ys)
+
+  pub others-one : (i : A) → is_among ids (id_of i) ≡ false → props_of_others id_of props_of ids (i ∷ []) ≡ props_of i
+  others-one i e = ap (λ b. flat_map props_of (cond (not b) (i ∷ []) [])) e ∙ append-nil (props_of i)
+
+  pub others-none : (i : A) → is_among ids (id_of i) ≡ true → props_of_others id_of props_of ids (i ∷ []) ≡ []
+  others-none i e = ap (λ b. flat_map props_of (cond (not b) (i ∷ []) [])) e
