@@ -1,9 +1,12 @@
 pub mod Alike
+pub mod Cuts
 pub mod Lists
 pub mod Makes
 pub mod Numbers
 pub mod Others
+pub mod Places
 pub mod Sets
+pub mod Steps
 pub mod Tables
 pub mod Tally
 pub mod Writes

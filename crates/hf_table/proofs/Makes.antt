@@ -7,12 +7,11 @@ use Rattle.hf_prop.specs.declared.prop.Prop.{Prop}
 use Rattle.hf_table.specs.Numbered.{IsFirst, Stands, place_of}
 use Rattle.hf_table.specs.Table.{same_prop, number_of, with_prop, table}
 use Rattle.hf_table.proofs.Tables.{same_prop-self}
-use Rattle.hf_uses.specs.declared.held.Item.{Item}
 use Rattle.hf_table.proofs.Tally.{table-any}
 use Rattle.hf_table.proofs.Numbers.{position-grow, position-end, number-comes, numbers-stay, zip-weaker, zip-push}
 
-module _ (items : List Item) (ps : List Prop) (p : Prop) where
-  first-grow : (w : ℕ × ℕ) (q : Prop) → IsFirst items ps w q → IsFirst items (ps ++ p ∷ []) w q
+module _ (lists : List (List Prop)) (ps : List Prop) (p : Prop) where
+  first-grow : (w : ℕ × ℕ) (q : Prop) → IsFirst lists ps w q → IsFirst lists (ps ++ p ∷ []) w q
   first-grow w q f = record {
     place = f.place ∙ sym (position-grow (same_prop q) ps (p ∷ []) (subst (λ n. n < length ps) f.place f.there));
     there = let t = f.there in omega (arith, length-append ps (p ∷ []));
@@ -33,19 +32,19 @@ module _ (items : List Item) (ps : List Prop) (p : Prop) where
         let one = number-comes p keys in
         sym (map-append (λ q. number_of q (with_prop keys p)) ps (p ∷ []) ∙ (λ j. old j ++ one j ∷ []))
 
-    module _ (places : List (ℕ × ℕ)) (firsts : AllZip (IsFirst items ps) places keys) where
-      kept : AllZip (IsFirst items (ps ++ p ∷ [])) places keys
-      kept = zip-weaker (IsFirst items ps) (IsFirst items (ps ++ p ∷ [])) first-grow places keys firsts
+    module _ (places : List (ℕ × ℕ)) (firsts : AllZip (IsFirst lists ps) places keys) where
+      kept : AllZip (IsFirst lists (ps ++ p ∷ [])) places keys
+      kept = zip-weaker (IsFirst lists ps) (IsFirst lists (ps ++ p ∷ [])) first-grow places keys firsts
 
-      pub firsts-kept : list_any (same_prop p) keys ≡ true → AllZip (IsFirst items (ps ++ p ∷ [])) places (with_prop keys p)
-      firsts-kept e = subst (λ b. AllZip (IsFirst items (ps ++ p ∷ [])) places (cond b keys (keys ++ p ∷ []))) (sym e) kept
+      pub firsts-kept : list_any (same_prop p) keys ≡ true → AllZip (IsFirst lists (ps ++ p ∷ [])) places (with_prop keys p)
+      firsts-kept e = subst (λ b. AllZip (IsFirst lists (ps ++ p ∷ [])) places (cond b keys (keys ++ p ∷ []))) (sym e) kept
 
-      pub firsts-more : (i j : ℕ) → place_of items i j ≡ length ps → Stands items i j p → list_any (same_prop p) keys ≡ false → AllZip (IsFirst items (ps ++ p ∷ [])) (places ++ (i, j) ∷ []) (with_prop keys p)
+      pub firsts-more : (i j : ℕ) → place_of lists i j ≡ length ps → Stands lists i j p → list_any (same_prop p) keys ≡ false → AllZip (IsFirst lists (ps ++ p ∷ [])) (places ++ (i, j) ∷ []) (with_prop keys p)
       firsts-more i j here at e =
-          let new : IsFirst items (ps ++ p ∷ []) (i, j) p = record {
+          let new : IsFirst lists (ps ++ p ∷ []) (i, j) p = record {
             place = here ∙ sym (position-end (same_prop p) ps p (sym (any-seen p) ∙ e) (same_prop-self p));
             there = omega (arith, length-append ps (p ∷ []));
             stands = at;
           } in
-          subst (λ b. AllZip (IsFirst items (ps ++ p ∷ [])) (places ++ (i, j) ∷ []) (cond b keys (keys ++ p ∷ []))) (sym e)
-          (zip-push (IsFirst items (ps ++ p ∷ [])) places keys (i, j) p kept new)
+          subst (λ b. AllZip (IsFirst lists (ps ++ p ∷ [])) (places ++ (i, j) ∷ []) (cond b keys (keys ++ p ∷ []))) (sym e)
+          (zip-push (IsFirst lists (ps ++ p ∷ [])) places keys (i, j) p kept new)

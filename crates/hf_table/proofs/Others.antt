@@ -1,5 +1,5 @@
 -- The properties of items that are not listed, where the items are gone through from the first on.
-use Rattle.std.proofs.Common.{◌≡◌, ℕ, Bool, true, false, not, cond, List, [], ◌∷◌, ◌++◌, ap, ◌∙◌}
+use Rattle.std.proofs.Common.{◌≡◌, ℕ, Bool, true, false, not, cond, List, [], ◌∷◌, ◌++◌, sym, ap, ◌∙◌}
 use Rattle.std.specs.List.{flat_map}
 use Rattle.std.proofs.lemmas.List.{append-nil}
 use Rattle.std.proofs.lemmas.List.Elements.{filter-append}
@@ -13,8 +13,11 @@ module _ {A : Type 0} (id_of : A → ℕ) (props_of : A → List Prop) (ids : Li
       ap (λ l. flat_map props_of l) (filter-append (λ (i : A). not (is_among ids (id_of i))) xs ys)
       ∙ flat_map-append props_of (others id_of ids xs) (others id_of ids ys)
 
-  pub others-one : (i : A) → is_among ids (id_of i) ≡ false → props_of_others id_of props_of ids (i ∷ []) ≡ props_of i
-  others-one i e = ap (λ b. flat_map props_of (cond (not b) (i ∷ []) [])) e ∙ append-nil (props_of i)
+  -- of an item whose id is told
+  module _ (i : A) (id : ℕ) (told : id ≡ id_of i) where
+    pub others-one : false ≡ is_among ids id → props_of_others id_of props_of ids (i ∷ []) ≡ props_of i
+    others-one unlisted =
+        ap (λ b. flat_map props_of (cond (not b) (i ∷ []) [])) (ap (is_among ids) (sym told) ∙ sym unlisted) ∙ append-nil (props_of i)
 
-  pub others-none : (i : A) → is_among ids (id_of i) ≡ true → props_of_others id_of props_of ids (i ∷ []) ≡ []
-  others-none i e = ap (λ b. flat_map props_of (cond (not b) (i ∷ []) [])) e
+    pub others-none : true ≡ is_among ids id → props_of_others id_of props_of ids (i ∷ []) ≡ []
+    others-none listed = ap (λ b. flat_map props_of (cond (not b) (i ∷ []) [])) (ap (is_among ids) (sym told) ∙ sym listed)
