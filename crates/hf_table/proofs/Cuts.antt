@@ -45,9 +45,11 @@ module _ (lists : List (List Prop)) (i : ℕ) (ps : List Prop) (at : slice_get l
       subst (λ l. length l ≤ n) (sym now) whole
 
 -- one more number, where the n-th of them is f n
-pub starts-more : (ss : List ℕ) (n x : ℕ) (f : ℕ → ℕ) → length ss ≡ n → ((k : ℕ) → k < n → get_or ss k 0 ≡ f k) → x ≡ f n → (k : ℕ) → k < n + 1 → get_or (ss ++ x ∷ []) k 0 ≡ f k
-starts-more ss n x f e below here k h =
-    elim (cases_lt k n) [
+pub starts-more : (ss new : List ℕ) (n x : ℕ) (f : ℕ → ℕ) → new ≡ ss ++ x ∷ [] → length ss ≡ n → ((k : ℕ) → k < n → get_or ss k 0 ≡ f k) → x ≡ f n
+    → (k : ℕ) → k < n + 1 → get_or new k 0 ≡ f k
+starts-more ss new n x f pushed e below here k h =
+    ap (λ l. get_or l k 0) pushed
+    ∙ elim (cases_lt k n) [
       | inl less ↦ get_or_append_left ss (x ∷ []) 0 k (omega arith) ∙ below k less
       | inr more ↦ let same : k ≡ n = omega arith in get_or_push ss x 0 k (e ∙ sym same) ∙ here ∙ ap f (sym same)
     ]

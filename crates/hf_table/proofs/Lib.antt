@@ -4,6 +4,7 @@ pub mod Lists
 pub mod Makes
 pub mod Numbers
 pub mod Others
+pub mod Passes
 pub mod Places
 pub mod Sets
 pub mod Steps
