@@ -6,8 +6,10 @@ pub mod Numbers
 pub mod Others
 pub mod Passes
 pub mod Places
+pub mod Rooms
 pub mod Sets
 pub mod Steps
 pub mod Tables
 pub mod Tally
+pub mod Unique
 pub mod Writes

@@ -19,7 +19,7 @@ module _ (lists : List (List Prop)) (i j : ℕ) (p : Prop) (s : Stands lists i j
   prop-there : j < length (get_or lists i s.props)
   prop-there = subst (λ ps. j < length ps) (sym list-is) (slice_get_within s.props j p s.held)
 
-  place-there : place_of lists i j < length (all_props lists)
+  pub place-there : place_of lists i j < length (all_props lists)
   place-there = let m = length-flat_map-take (λ (ps : List Prop). ps) lists i s.props list-there in let w = prop-there in omega arith
 
   place-is : get_or (all_props lists) (place_of lists i j) p ≡ p
