@@ -3,6 +3,7 @@
 
 mod assoc;
 mod body;
+mod held;
 mod ipma;
 mod iprp;
 pub mod laws;
@@ -12,6 +13,7 @@ mod views;
 
 pub use assoc::{Assoc, AssocList, Pick, Picks};
 pub use body::Body;
+pub use held::Held;
 pub use iprp::{Iprp, read_iprp};
 pub use makers::{mirror, turn, window};
 pub use prop::{Prop, PropList};

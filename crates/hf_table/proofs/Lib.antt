@@ -1,0 +1,15 @@
+pub mod Alike
+pub mod Cuts
+pub mod Lists
+pub mod Makes
+pub mod Numbers
+pub mod Others
+pub mod Passes
+pub mod Places
+pub mod Rooms
+pub mod Sets
+pub mod Steps
+pub mod Tables
+pub mod Tally
+pub mod Unique
+pub mod Writes

@@ -1,0 +1,6 @@
+pub mod Held
+pub mod Laws
+pub mod Making
+pub mod Numbered
+pub mod Table
+pub mod Uses

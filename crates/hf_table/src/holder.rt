@@ -1,0 +1,24 @@
+//! What holds properties.
+
+ghost use Rattle.std.specs.Prelude.{◌≡◌, ℕ, List};
+ghost use Rattle.hf_prop.specs.declared.prop.Prop.{Prop as StatedProp};
+ghost use Rattle.hf_table.specs.Held.{props_in};
+
+use hf_prop::Held;
+
+/// What has an id and holds properties, as an item does.
+pub trait Holder<'a> {
+    /// The id.
+    ghost id_of: { Self → ℕ };
+
+    /// The properties, in order.
+    ghost props_of: { Self → List StatedProp };
+
+    /// The id.
+    fn id(&self) -> u32
+        ensures { result ≡ id_of self.now };
+
+    /// The properties, in order.
+    fn props(&self) -> &[Held<'a>]
+        ensures { props_in result.now ≡ props_of self.now };
+}

@@ -1,0 +1,81 @@
+//! The table is made, in one pass over the properties of all items.
+
+ghost use Rattle.std.specs.Prelude.{◌≡◌, ◌≤◌, ◌<◌, ◌++◌, ◌+◌, [], ◌∷◌, List, length, map, fold, slice_get, Some, IfOk, OnOk};
+ghost use Rattle.hf_base.specs.declared.limits.TheConstants.{KINDS};
+ghost use Rattle.hf_prop.specs.declared.prop.Prop.{Prop as StatedProp};
+ghost use Rattle.hf_table.specs.Held.{props_in, all_props};
+ghost use Rattle.hf_table.specs.Making.{IsMade};
+ghost use Rattle.hf_table.specs.Numbered.{IsTableOf, Stands, place_of};
+ghost use Rattle.hf_table.specs.Table.{table, with_prop};
+
+use crate::Holder;
+use crate::table::Table;
+use hf_base::NoMemory;
+use hf_prop::{Held, Prop};
+use indexmap::IndexSet;
+use std::alloc::Global;
+
+/// What was met so far.
+#[derive(Drop)]
+struct Making<'a> {
+    /// The distinct properties, in the order of their first use.
+    seen: IndexSet<Prop<'a>>,
+    /// Where each is first used.
+    firsts: Vec<(usize, usize)>,
+    /// The numbers of all properties.
+    numbers: Vec<u16>,
+}
+
+impl<'a> Making<'a> {
+    /// One more property: the j-th one of the i-th item.
+    fn note(&mut self, prop: Prop<'a>, i: usize, j: usize) -> Result<(), NoMemory>
+        requires { length self.old.seen.keys ≤ KINDS }
+        ensures seen { OnOk result (self.new.seen.keys ≡ with_prop self.old.seen.keys prop.entry) }
+        ensures made { OnOk result ((lists : List (List StatedProp)) (ps : List StatedProp) → IsMade lists ps self.old → place_of lists i j ≡ length ps → Stands lists i j prop.entry → IsMade lists (ps ++ prop.entry ∷ []) self.new) }
+    {
+        let (index, is_new) = self.seen.insert_full(prop)?;
+        if is_new {
+            self.firsts.push((i, j))?;
+        }
+        self.numbers.push(index as u16 + 1)?;
+        Ok(())
+    }
+
+    /// The properties of one more item, the i-th one.
+    fn note_all(&mut self, props: &[Held<'a>], i: usize) -> Result<(), NoMemory>
+        requires { length (fold with_prop self.old.seen.keys (props_in props.now)) ≤ KINDS }
+        ensures { OnOk result ((lists : List (List StatedProp)) (ps : List StatedProp) → IsMade lists ps self.old → place_of lists i 0 ≡ length ps → slice_get lists i ≡ Some (props_in props.now) → IsMade lists (ps ++ props_in props.now) self.new) }
+    {
+        for j in 0..props.len() {
+            self.note(props[j].prop.copy(), i, j)?;
+        }
+        Ok(())
+    }
+}
+
+/// The table of these items. `NoMemory` comes where memory was refused.
+pub fn make_table<'a, H: Holder<'a>>(alloc: Global, items: &[H]) -> Result<Table, NoMemory>
+    requires { length (table (all_props (map H.props_of items.now))) ≤ KINDS }
+    ensures { IfOk result (IsTableOf (map H.props_of items.now)) }
+{
+    let mut making = Making {
+        seen: IndexSet::new(alloc),
+        firsts: Vec::new(alloc),
+        numbers: Vec::new(alloc),
+    };
+    let mut starts = Vec::with_capacity(alloc, items.len())?;
+    for i in 0..items.len() {
+        starts.push(making.numbers.len())?;
+        making.note_all(items[i].props(), i)?;
+    }
+    let Making {
+        seen: _seen,
+        firsts,
+        numbers,
+    } = making;
+    Ok(Table {
+        firsts,
+        numbers,
+        starts,
+    })
+}
