@@ -5,7 +5,7 @@ use Rattle.hf_base.specs.declared.four.FourCc.{FourCc}
 use Rattle.hf_head.specs.Ftyp.{Brands}
 pub use Rattle.hf_links.specs.Grpl.{Group}
 pub use Rattle.hf_prop.specs.declared.prop.Prop.{Prop}
-pub use Rattle.hf_prop.specs.Held.{Held}
+pub use Rattle.hf_prop.specs.declared.held.Held.{Held}
 
 -- the references of one type that an item has: their type, and the ids of the items that they lead to
 pub record RefList : Type 0 where
