@@ -1,7 +1,6 @@
 -- Properties are read as they stand.
-use Rattle.std.proofs.Common.{◌≡◌, ◌+◌, ◌≤◌, ℕ, false, List, [], ◌∷◌, ◌++◌, length, map, Option, Some, None, Result, Ok, Err, refl, sym, ap, subst, ◌∙◌, arith, inl, inr}
+use Rattle.std.proofs.Common.{◌≡◌, ◌+◌, ◌≤◌, ℕ, false, List, [], ◌∷◌, map, Option, Some, None, Result, Ok, Err, refl, sym, ap, subst, ◌∙◌, arith, inl, inr}
 use Rattle.std.specs.Prelude.{IfOk}
-use Rattle.std.specs.List.{AllByRecursion, AllZip, flat_map}
 use Rattle.std.specs.Option.{option_to_list}
 use Rattle.std.proofs.lemmas.Bool.{cases_Bool}
 use Rattle.hf_base.specs.declared.four.FourCc.{FourCc}
@@ -14,7 +13,7 @@ use Rattle.hf_base.specs.Reading.{Gives, MatchOpen}
 use Rattle.hf_base.specs.ReadingLaws.{bind_ok, ok_is}
 use Rattle.hf_base.specs.EntryLaws.{EachGoes}
 use Rattle.hf_base.specs.NewEntries.{IsFew, few_each, each_few, IsNew, new_each, each_new, each_both, both_first, both_second}
-use Rattle.hf_box.specs.Boxes.{BoxAt, IsBoxes}
+use Rattle.hf_box.specs.Boxes.{BoxAt}
 use Rattle.hf_box.specs.Framing.{frames}
 use Rattle.hf_box.specs.Tables.{of_kind, boxes_from}
 use Rattle.hf_box.specs.Walk.{is_kind}
@@ -24,9 +23,9 @@ use Rattle.hf_box.proofs.TableLaws.{bodies}
 use Rattle.hf_prop.specs.declared.assoc.Assoc.{Assoc}
 use Rattle.hf_prop.specs.declared.iprp.Iprp.{Iprp}
 use Rattle.hf_prop.specs.declared.prop.Prop.{Prop}
-use Rattle.hf_prop.specs.Ipma.{IsIpma, assoc_ids, assoc_rows, with_ipma}
-use Rattle.hf_prop.specs.Iprp.{prop_of, IsIpco, AreProps, IsIprp, IpcoWithin, StandsWithin, IsIprpWithin, at_most_one, props_at, iprp_within, iprp_at}
-use Rattle.hf_prop.proofs.IpmaLemmas.{id_of, len_of, Goes, flat, Is, AreBodies, tables_again, tables_take}
+use Rattle.hf_prop.specs.Ipma.{assoc_rows, with_ipma}
+use Rattle.hf_prop.specs.Iprp.{prop_of, AreProps, IsIprp, IpcoWithin, StandsWithin, IsIprpWithin, at_most_one, props_at, iprp_within, iprp_at}
+use Rattle.hf_prop.proofs.IpmaLemmas.{id_of, len_of, Goes, flat, AreBodies, tables_again, tables_take}
 
 bodies_of_kind : (kind : FourCc) (boxes : List BoxAt) → AreBodies boxes → AreBodies (of_kind kind boxes)
 bodies_of_kind kind [] h = tt

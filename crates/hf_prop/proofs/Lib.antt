@@ -1,6 +1,5 @@
 pub mod IpmaLemmas
 pub mod IprpLemmas
-pub mod KindLemmas
 pub mod LoopLemmas
 pub mod ViewLemmas
 pub mod WrittenLemmas

@@ -5,7 +5,7 @@ use Rattle.std.proofs.lemmas.Bool.{lt-ltb}
 use Rattle.std.proofs.lemmas.List.{drop_at, take_all}
 use Rattle.hf_base.specs.Number.{num, number, number_at}
 use Rattle.hf_base.specs.NumberLaws.{number-num, length-num}
-use Rattle.hf_prop.specs.Views.{turn_in, axis_in, side_of, sides_in, both_of, window_in, turn_by, mirror_at, signed_difference, window_body, window_at}
+use Rattle.hf_prop.specs.Views.{turn_in, axis_in, side_of, sides_in, window_in, turn_by, mirror_at, signed_difference, window_body, window_at}
 
 pub turn_again : (quarters : ℕ) → quarters < 4 → turn_in (turn_by quarters) ≡ Some quarters
 unfolding num

@@ -1,5 +1,5 @@
 -- The body that is written has its properties and its entries.
-use Rattle.std.proofs.Common.{◌≡◌, ℕ, suc, ◌+◌, ◌*◌, ◌≤◌, ◌<◌, ◌^◌, Bool, true, false, List, [], ◌∷◌, ◌++◌, length, map, Option, Some, Ok, refl, sym, ap, ◌∙◌, append_assoc, append-nil, length-append, arith, inl, inr}
+use Rattle.std.proofs.Common.{◌≡◌, ℕ, suc, ◌+◌, ◌≤◌, ◌<◌, ◌^◌, Bool, true, false, List, [], ◌∷◌, ◌++◌, length, map, Some, Ok, refl, sym, ap, ◌∙◌, append_assoc, append-nil, length-append, arith, inl, inr}
 use Rattle.std.specs.Prelude.{if◌then◌else◌}
 use Rattle.std.specs.List.{AllByRecursion, flat_map}
 use Rattle.std.proofs.lemmas.List.Concat.{flat_map-cons}
@@ -8,7 +8,7 @@ use Rattle.hf_base.specs.Entries.{AreTexts, IsIdWidth}
 use Rattle.hf_base.specs.Number.{num}
 use Rattle.hf_base.specs.Reading.{full}
 use Rattle.hf_base.specs.declared.kinds.TheConstants.{IPCO, IPMA}
-use Rattle.hf_base.specs.declared.limits.TheConstants.{BOXES, ROWS}
+use Rattle.hf_base.specs.declared.limits.TheConstants.{ROWS}
 use Rattle.hf_box.specs.Boxes.{BoxAt, IsBoxes}
 use Rattle.hf_box.specs.Head.{box, box_head, written_at}
 use Rattle.hf_box.specs.Written.{bit, id_width, id_version}
@@ -18,7 +18,7 @@ use Rattle.hf_prop.specs.declared.assoc.Pick.{Pick}
 use Rattle.hf_prop.specs.declared.iprp.Iprp.{Iprp}
 use Rattle.hf_prop.specs.declared.prop.Prop.{Prop}
 use Rattle.hf_prop.specs.Ipma.{pick_width, IsPick, IsAssoc, IsIpma, assoc_rows, association, ipma_entry, ipma_body, IsWritable}
-use Rattle.hf_prop.specs.Iprp.{prop_of, IsIpco, IsIprp, StandsWithin, IsIprpWithin, ipco_body, is_long_table, iprp_body, IsWritten, iprp_at}
+use Rattle.hf_prop.specs.Iprp.{prop_of, IsIpco, IsIprp, IsIprpWithin, ipco_body, is_long_table, iprp_body, IsWritten, iprp_at}
 use Rattle.hf_prop.proofs.IprpLemmas.{iprp_again}
 
 -- ---- entries of `ipma`

@@ -1,14 +1,10 @@
 -- The values of the reader, as definitions see them.
-use Rattle.std.specs.Prelude.{◌≡◌, ℕ, Bool, List, Option, Some, None, Result, Ok, if◌then◌else◌}
+use Rattle.std.specs.Prelude.{◌≡◌, ℕ, Bool, Option, Some, None, if◌then◌else◌}
 use Rattle.hf_base.specs.Entries.{has_id}
-use Rattle.hf_base.specs.declared.fault.ReadRefusal.{ReadRefusal}
-use Rattle.hf_base.specs.declared.kinds.TheConstants.{IPMA}
 use Rattle.hf_box.specs.declared.view.BoxView.{BoxView}
 use Rattle.hf_box.specs.Boxes.{BoxAt, box_of}
-use Rattle.hf_box.specs.Walk.{is_kind}
-use Rattle.hf_prop.specs.declared.assoc.Assoc.{Assoc}
 use Rattle.hf_prop.specs.declared.ipma.Table.{Table}
-use Rattle.hf_prop.specs.Ipma.{assoc_ids, assoc_rows, with_ipma}
+use Rattle.hf_prop.specs.Ipma.{assoc_ids, assoc_rows}
 
 -- how many bytes an association takes
 abbrev pub pick_bytes : Bool → ℕ
@@ -18,10 +14,6 @@ pick_bytes two_bytes = if two_bytes then 2 else 1
 pub record IsTable (t : Table) : Type 0 where
   pub rows : t.rows ≡ assoc_rows t.assocs
   pub ids : (id : ℕ) → has_id id t.ids ≡ has_id id (assoc_ids t.assocs)
-
--- the entries before, and those of a box where it is an `ipma`
-unfoldable pub with_any : ℕ → List Assoc → BoxAt → Result (List Assoc) ReadRefusal
-with_any most earlier b = if is_kind b.kind IPMA then with_ipma most earlier b else Ok earlier
 
 -- the box that a view shows, where there is one
 abbrev pub ipco_in : Option BoxView → Option BoxAt

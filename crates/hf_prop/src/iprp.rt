@@ -1,23 +1,23 @@
 //! `iprp` and its `ipco`: ItemPropertiesBox and ItemPropertyContainerBox of ISO/IEC 23008-12.
 
-ghost use Rattle.std.specs.Prelude.{◌≡◌, ◌<◌, ◌≤◌, ◌+◌, ◌^◌, ℕ, [], length, map, IfOk, IfSome, All};
+ghost use Rattle.std.specs.Prelude.{◌≡◌, ◌<◌, ◌≤◌, ◌+◌, ◌^◌, ℕ, [], length, map, IfOk, IfSome};
 ghost use Rattle.hf_base.specs.Reading.{Reads, Gives, MatchOpen};
 ghost use Rattle.hf_base.specs.declared.kinds.TheConstants.{IPCO, IPMA, IPRP};
 ghost use Rattle.hf_base.specs.declared.limits.TheConstants.{ROWS};
-ghost use Rattle.hf_box.specs.Boxes.{BoxAt, box_of, boxes_of, end_of};
+ghost use Rattle.hf_box.specs.Boxes.{BoxAt, box_of, end_of};
 ghost use Rattle.hf_box.specs.Tables.{of_kind, boxes_from};
 ghost use Rattle.hf_prop.specs.declared.iprp.Iprp.{Iprp as Stated};
 ghost use Rattle.hf_prop.specs.Iprp.{prop_of, IsIprpWithin, at_most_one, props_at, iprp_within, iprp_at};
 ghost use Rattle.hf_prop.specs.Ipma.{with_ipma};
-ghost use Rattle.hf_prop.specs.Tables.{IsTable, with_any, ipco_in};
+ghost use Rattle.hf_prop.specs.Tables.{ipco_in};
 
 use crate::assoc::AssocList;
 use crate::body::Body;
-use crate::ipma::{Table, read_ipma};
+use crate::ipma::{Table, read_ipma, room_for_entries};
 use crate::prop::{Prop, PropList};
 use hf_base::kinds::{IPCO, IPMA};
 use hf_base::{FourCc, NoMemory, OpenFault, ReadRefusal};
-use hf_box::{BoxView, read_boxes};
+use hf_box::{BoxView, InnerBoxes};
 use std::alloc::Global;
 
 /// The properties of a file, and which items have them.
@@ -31,31 +31,28 @@ pub struct Iprp<'a> {
 
 /// The one `ipco` of these boxes, where there is one. Double comes, with the place of the second one,
 /// where there are more.
-fn find_ipco<'a>(views: &[BoxView<'a>]) -> Result<Option<BoxView<'a>>, ReadRefusal>
-    ensures exact { Reads ipco_in result (at_most_one (of_kind IPCO (boxes_of views.now))) }
-    ensures within { (limit : ℕ) → All (λ b. end_of (box_of b) ≤ limit) views.now → IfOk result (λ ipco. IfSome ipco (λ b. end_of (box_of b) ≤ limit)) }
+#[tactic(auto, unfolding(crate::specs::Iprp::at_most_one))]
+fn find_ipco<'a>(boxes: &InnerBoxes<'a>) -> Result<Option<BoxView<'a>>, ReadRefusal>
+    ensures exact { Reads ipco_in result (at_most_one (of_kind IPCO boxes.now)) }
+    ensures place { IfOk result (λ ipco. IfSome ipco (λ b. end_of (box_of b) < 2 ^ 64)) }
 {
-    let mut ipco = None;
-    for view in views {
-        if view.kind == IPCO {
-            if ipco.is_some() {
-                return Err(ReadRefusal::Double {
-                    kind: IPCO,
-                    at: view.at,
-                });
-            }
-            ipco = Some(*view);
-        }
+    let mut left = boxes.copy();
+    let ipco = left.next_of(IPCO);
+    if let Some(second) = left.next_of(IPCO) {
+        return Err(ReadRefusal::Double {
+            kind: IPCO,
+            at: second.at,
+        });
     }
     Ok(ipco)
 }
 
 /// A property for each box.
-fn props_in<'a>(alloc: Global, views: &[BoxView<'a>]) -> Result<PropList<'a>, NoMemory>
-    ensures { IfOk result (λ props. props ≡ map prop_of (boxes_of views.now)) }
+fn props_in<'a>(alloc: Global, mut boxes: InnerBoxes<'a>) -> Result<PropList<'a>, NoMemory>
+    ensures { IfOk result (λ props. props ≡ map prop_of boxes.entry) }
 {
-    let mut props = PropList::with_capacity(alloc, views.len())?;
-    for view in views {
+    let mut props = PropList::with_capacity(alloc, boxes.len())?;
+    while let Some(view) = boxes.next() {
         props.push(Prop {
             kind: view.kind,
             body: Body::lent(view.body),
@@ -73,32 +70,17 @@ fn read_ipco<'a>(alloc: Global, ipco: Option<BoxView<'a>>) -> Result<PropList<'a
     let Some(view) = ipco else {
         return Ok(PropList::new(alloc));
     };
-    let views = read_boxes(alloc, view.body, view.at + u64::from(view.head), false)?;
-    Ok(props_in(alloc, &views)?)
-}
-
-/// What was read before, and the entries of a box where it is an `ipma`.
-#[tactic(auto, unfolding(crate::specs::Tables::with_any))]
-fn read_any(alloc: Global, table: Table, view: &BoxView<'_>) -> Result<Table, OpenFault>
-    requires table { IsTable table }
-    requires few { table.rows ≤ ROWS }
-    ensures exact { Gives (λ t. t.assocs) result (with_any ROWS table.assocs (box_of view.now)) }
-    ensures table { IfOk result (λ t. IsTable t) }
-    ensures few { IfOk result (λ t. t.rows ≤ ROWS) }
-{
-    if view.kind == IPMA {
-        return read_ipma(alloc, table, view);
-    }
-    Ok(table)
+    let boxes = InnerBoxes::of(view.body, view.at + u64::from(view.head))?;
+    Ok(props_in(alloc, boxes)?)
 }
 
 /// The entries of all `ipma` among these boxes.
-fn read_assocs(alloc: Global, views: &[BoxView<'_>]) -> Result<AssocList, OpenFault>
-    ensures { Gives (λ assocs. assocs) result (boxes_from (with_ipma ROWS) [] (of_kind IPMA (boxes_of views.now))) }
+fn read_assocs(alloc: Global, mut boxes: InnerBoxes<'_>) -> Result<AssocList, OpenFault>
+    ensures { Gives (λ assocs. assocs) result (boxes_from (with_ipma ROWS) [] (of_kind IPMA boxes.entry)) }
 {
-    let mut table = Table::new(alloc);
-    for view in views {
-        table = read_any(alloc, table, view)?;
+    let mut table = Table::with_capacity(alloc, room_for_entries(&boxes))?;
+    while let Some(view) = boxes.next_of(IPMA) {
+        table = read_ipma(alloc, table, &view)?;
     }
     Ok(table.assocs)
 }
@@ -109,10 +91,10 @@ fn iprp_of<'a>(alloc: Global, view: &BoxView<'a>) -> Result<Iprp<'a>, OpenFault>
     requires { end_of (box_of view.now) < 2 ^ 64 }
     ensures { Gives (λ v. v) result (iprp_at (box_of view.now)) }
 {
-    let views = read_boxes(alloc, view.body, view.at + u64::from(view.head), false)?;
-    let ipco = find_ipco(&views)?;
+    let boxes = InnerBoxes::of(view.body, view.at + u64::from(view.head))?;
+    let ipco = find_ipco(&boxes)?;
     let props = read_ipco(alloc, ipco)?;
-    let assocs = read_assocs(alloc, &views)?;
+    let assocs = read_assocs(alloc, boxes)?;
     Ok(Iprp { props, assocs })
 }
 

@@ -1,35 +1,26 @@
-use Rattle.std.proofs.Common.{[], sym, ◌∙◌, arith}
 use Rattle.std.proofs.lemmas.Result.{err_from_is_err_and}
+use Rattle.hf_base.specs.declared.kinds.TheConstants.{IPMA}
 use Rattle.hf_base.specs.declared.limits.TheConstants.{ROWS}
-use Rattle.hf_box.specs.Boxes.{boxes_of}
-use Rattle.hf_box.specs.Tables.{boxes_from}
-use Rattle.hf_prop.specs.Tables.{with_any}
-use Rattle.hf_prop.proofs.KindLemmas.{any_boxes}
-use Rattle.hf_prop.proofs.TableLoop.{box_more, box_stops, boxes_done, gives_fault}
+use Rattle.hf_box.specs.Tables.{of_kind}
+use Rattle.hf_box.proofs.TableLoop.{box_more, box_stops, boxes_done, gives_fault}
+use Rattle.hf_prop.specs.Ipma.{with_ipma}
 use Rattle.hf_prop.proofs.iprp.read_assocs.Goals as goal
 
-pub returns-in_err-table : goal.returns-in_err-table
-returns-in_err-table c =
-    let views = c.args.views.now in
-    let total = boxes_from (with_any ROWS) [] (boxes_of views) in
-    let p = err_from_is_err_and c.from_residual.result c.from_residual.ensures.1 in
-    let fault = c.in_err-table.field-0.0 in
-    let stops = box_stops (with_any ROWS) c.loop-view.table.assocs views c.loop-view.view-index total _ fault c.loop-view-test.true c.in_err-table.ensures.exact c.loop-view.invariant.read in
-    rw (← any_boxes ROWS (boxes_of views) []) (gives_fault (λ assocs. assocs) c.from_residual.result p.0 fault total p.1 p.2 stops)
+pub returns-in_err-table-2 : goal.returns-in_err-table-2
+returns-in_err-table-2 c =
+    let p = err_from_is_err_and c.from_residual-in_err-table-2.result c.from_residual-in_err-table-2.ensures.1 in
+    let fault = c.in_err-table-2.field-0.0 in
+    let stops = box_stops (with_ipma ROWS) c.loop-view.table.assocs (of_kind IPMA c.loop-view.boxes) _ _ _ fault c.in-Some.ensures.some c.in_err-table-2.ensures.exact c.loop-view.invariant.read in
+    gives_fault (λ assocs. assocs) c.from_residual-in_err-table-2.result p.0 fault _ p.1 p.2 stops
 
 pub loop-view-preserved : goal.loop-view-preserved
 loop-view-preserved c =
-    let views = c.args.views.now in
-    let total = boxes_from (with_any ROWS) [] (boxes_of views) in
-    let e = c.in_ok-table.ensures in
+    let e = c.in_ok-table-2.ensures in
     record {
       table = e.table;
       few = e.few;
-      read = box_more (with_any ROWS) c.loop-view.table.assocs views c.loop-view.view-index total _ c.in_ok-table.table.assocs c.loop-view-test.true e.exact c.loop-view.invariant.read;
+      read = box_more (with_ipma ROWS) c.loop-view.table.assocs (of_kind IPMA c.loop-view.boxes) _ _ _ c.in_ok-table-2.table.assocs c.in-Some.ensures.some e.exact c.loop-view.invariant.read;
     }
 
 pub returns : goal.returns
-returns c =
-    let views = c.args.views.now in
-    let total = boxes_from (with_any ROWS) [] (boxes_of views) in
-    sym (any_boxes ROWS (boxes_of views) []) ∙ boxes_done (with_any ROWS) c.loop-view.table.assocs views c.loop-view.view-index total (omega (arith, c.loop-view-test.false)) c.loop-view.invariant.read
+returns c = boxes_done (with_ipma ROWS) c.loop-view.table.assocs (of_kind IPMA c.loop-view.boxes) _ c.in_default.ensures.none c.loop-view.invariant.read
