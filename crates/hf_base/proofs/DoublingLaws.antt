@@ -3,7 +3,7 @@ use Rattle.std.proofs.Common.{◌≡◌, ℕ, zero, suc, ◌+◌, ◌-◌, ◌*�
 use Rattle.std.specs.Prelude.{◌==◌, not, nat_lt, if◌then◌else◌}
 use Rattle.std.specs.List.{list_all, list_any, find}
 use Rattle.std.specs.Option.{is_none}
-use Rattle.std.proofs.lemmas.Bool.{cases_lt, lt-ltb, le-ltb}
+use Rattle.std.proofs.lemmas.Bool.{cases_Bool, cases_lt, lt-ltb, le-ltb}
 use Rattle.std.proofs.lemmas.Bool.Decides.{nat_tests}
 use Rattle.std.proofs.lemmas.List.{map-append}
 use Rattle.std.proofs.lemmas.List.Sums.{sum_by-append, sum_by-cons}
@@ -23,15 +23,11 @@ use Rattle.hf_base.specs.Doubling.{from_front, first_item, doubled_item, doubled
 use Rattle.hf_base.proofs.FaultLaws.{none_refused}
 use Rattle.hf_base.proofs.Converse.{within_limit}
 
-pub either : (b : Bool) → (b ≡ true) ⊎ (b ≡ false)
-either true = inl refl
-either false = inr refl
-
 -- ---- the item with an id
 
 with_front : (id : ℕ) (xs ys : List Located) (x : Located) → item_with id xs ≡ Some x → item_with id (xs ++ ys) ≡ Some x
 with_front id [] ys x e = absurd (cc)
-with_front id (z ∷ zs) ys x e = elim (either (z.id == id)) [
+with_front id (z ∷ zs) ys x e = elim (cases_Bool (z.id == id)) [
   | inl same ↦ (
       let f : item_with id (z ∷ zs) ≡ Some z = rw same refl in
       let g : item_with id ((z ∷ zs) ++ ys) ≡ Some z = rw same refl in
@@ -46,7 +42,7 @@ with_front id (z ∷ zs) ys x e = elim (either (z.id == id)) [
 
 with_back : (id : ℕ) (xs ys : List Located) → item_with id xs ≡ None → item_with id (xs ++ ys) ≡ item_with id ys
 with_back id [] ys e = refl
-with_back id (z ∷ zs) ys e = elim (either (z.id == id)) [
+with_back id (z ∷ zs) ys e = elim (cases_Bool (z.id == id)) [
   | inl same ↦ (let f : item_with id (z ∷ zs) ≡ Some z = rw same refl in absurd (cc))
   | inr other ↦ (
       let f : item_with id (z ∷ zs) ≡ item_with id zs = rw other refl in

@@ -3,7 +3,7 @@ use Rattle.std.proofs.Common.{◌≡◌, ℕ, zero, suc, ◌+◌, ◌-◌, ◌^�
 use Rattle.std.specs.Prelude.{◌==◌, not, nat_lt, if◌then◌else◌}
 use Rattle.std.specs.List.{list_all, list_any, find}
 use Rattle.std.specs.Option.{option_map, option_and_then, is_none}
-use Rattle.std.proofs.lemmas.Bool.{and_parts, and_from, false≢true, ltb-true, lt-ltb, le-ltb}
+use Rattle.std.proofs.lemmas.Bool.{cases_Bool, and_parts, and_from, false≢true, ltb-true, lt-ltb, le-ltb}
 use Rattle.std.proofs.lemmas.Bool.Decides.{nat_tests}
 use Rattle.std.proofs.lemmas.List.{length-drop, length-take-le}
 use Rattle.hf_base.specs.Reading.{◌>>=◌}
@@ -21,14 +21,10 @@ use Rattle.hf_base.proofs.LevelLaws.{map_same, all_at, all_from, stable, source_
 
 -- ---- the parts
 
-either : (b : Bool) → (b ≡ true) ⊎ (b ≡ false)
-either true = inl refl
-either false = inr refl
-
 -- no item has the fault
 pub none_has : (has : Located → Bool) (why : ℕ → ReadRefusal) (items : List Located) (r : Located) → refused why (first_with has items) ≡ Ok tt → IsIn r items → has r ≡ false
 none_has has why [] r fine is = absurd is
-none_has has why (x ∷ xs) r fine is = elim (either (has x)) [
+none_has has why (x ∷ xs) r fine is = elim (cases_Bool (has x)) [
   | inl held ↦ (let e : refused why (first_with has (x ∷ xs)) ≡ Err (why x.id) = rw held refl in absurd (cc))
   | inr fails ↦ (
       let e : first_with has (x ∷ xs) ≡ first_with has xs = rw fails refl in
