@@ -7,6 +7,7 @@ pub mod laws;
 mod making;
 mod table;
 mod uses;
+pub mod worked;
 
 pub use holder::Holder;
 pub use making::make_table;
