@@ -9,6 +9,7 @@ pub mod Places
 pub mod Rooms
 pub mod Sets
 pub mod Steps
+pub mod Stores
 pub mod Tables
 pub mod Tally
 pub mod Unique

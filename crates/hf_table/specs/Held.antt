@@ -17,6 +17,10 @@ is_of kind h = is_kind h.prop.kind kind
 abbrev pub of_kind : FourCc → List Held → List Prop
 of_kind kind held = props_in (filter (is_of kind) held)
 
+-- the others, with their essential marks
+abbrev pub without_kind : FourCc → List Held → List Held
+without_kind kind held = filter (λ (h : Held). not (is_of kind h)) held
+
 -- all properties, one list after the other
 abbrev pub all_props : List (List Prop) → List Prop
 all_props lists = flat_map (λ (ps : List Prop). ps) lists
@@ -24,6 +28,10 @@ all_props lists = flat_map (λ (ps : List Prop). ps) lists
 -- whether an id is one of these
 abbrev pub is_among : List ℕ → ℕ → Bool
 is_among ids id = list_any (nat_eq id) ids
+
+-- those whose id, told by id_of, is one of these
+abbrev pub listed : {A : Type 0} → (A → ℕ) → List ℕ → List A → List A
+listed id_of ids items = filter (λ i. is_among ids (id_of i)) items
 
 -- those whose id, told by id_of, is none of these
 abbrev pub others : {A : Type 0} → (A → ℕ) → List ℕ → List A → List A

@@ -4,3 +4,4 @@ pub mod Making
 pub mod Numbered
 pub mod Table
 pub mod Uses
+pub mod Worked

@@ -54,7 +54,8 @@ impl<'a> Uses<'a> {
         ensures { Gains self.new (of_kind kind props.now) self.old }
     {
         for held in props {
-            if held.prop.kind == kind {
+            let is_of_kind = held.prop.kind == kind;
+            if is_of_kind {
                 self.take(&held.prop);
             }
         }
@@ -67,7 +68,8 @@ impl<'a> Uses<'a> {
         ensures { Gains self.new (props_of_others H.id_of H.props_of ids.now items.now) self.old }
     {
         for item in items {
-            if !is_listed(ids, item.id()) {
+            let stays = is_listed(ids, item.id());
+            if !stays {
                 self.take_all(item.props());
             }
         }
@@ -75,7 +77,7 @@ impl<'a> Uses<'a> {
 }
 
 /// Whether an id is one of these, which rise.
-fn is_listed(ids: &[u32], id: u32) -> bool
+pub fn is_listed(ids: &[u32], id: u32) -> bool
     ensures { IsStrictlyIncreasing ids.now → result ≡ is_among ids.now id }
 {
     ids.binary_search(&id).is_ok()

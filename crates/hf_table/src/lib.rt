@@ -7,8 +7,13 @@ pub mod laws;
 mod making;
 mod table;
 mod uses;
+pub mod worked;
 
+pub use changes::is_listed;
 pub use holder::Holder;
 pub use making::make_table;
 pub use table::Table;
 pub use uses::Uses;
+
+#[cfg(test)]
+mod tests;

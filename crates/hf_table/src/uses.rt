@@ -143,9 +143,9 @@ fn lower<'a>(places: &mut IndexMap<Prop<'a>, usize>, prop: &Prop<'a>) -> bool
     let Some(count) = places.get_mut(prop) else {
         return false;
     };
-    if *count > 1 {
+    let has_more = *count > 1;
+    if has_more {
         *count -= 1;
-        return true;
     }
-    false
+    has_more
 }
