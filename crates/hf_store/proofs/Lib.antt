@@ -1,5 +1,6 @@
 pub mod BareLengths
 pub mod BoxLengths
+pub mod Counted
 pub mod Ends
 pub mod FieldLengths
 pub mod GridFiles

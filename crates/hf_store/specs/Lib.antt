@@ -1,5 +1,6 @@
 pub mod BadStores
 pub mod Changes
+pub mod Counts
 pub mod Derived
 pub mod LargeStores
 pub mod Layout

@@ -1,0 +1,14 @@
+//! What is counted over a store. Each is the contract of a function that does nothing.
+
+ghost use Rattle.hf_store.specs.Counts.{ItemGoes, ItemComes, ItemChanges, GroupGoes, GroupComes, GroupChanges};
+
+/// An item or a group that goes takes its counts with it, one that comes brings its own, and one
+/// that stands for another one does both.
+pub fn counts_follow_changes()
+    ensures item_goes { ItemGoes }
+    ensures item_comes { ItemComes }
+    ensures item_changes { ItemChanges }
+    ensures group_goes { GroupGoes }
+    ensures group_comes { GroupComes }
+    ensures group_changes { GroupChanges }
+{}
