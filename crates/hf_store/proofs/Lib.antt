@@ -1,6 +1,7 @@
 pub mod BareLengths
 pub mod BoxLengths
 pub mod Counted
+pub mod CountsAre
 pub mod Ends
 pub mod FieldLengths
 pub mod GridFiles

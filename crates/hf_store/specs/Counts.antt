@@ -1,11 +1,13 @@
 -- What is counted over the items and groups of a store. The lengths of the boxes of its canonical file follow from these
 -- counts, and each change of the store adds and takes those of the items that it changes.
-use Rattle.std.specs.Prelude.{◌≡◌, ◌+◌, ◌^◌, ℕ, List, length, take, set, slice_get, Some, nat_le, if◌then◌else◌}
-use Rattle.std.specs.List.{sum_by, remove, insert}
+use Rattle.std.specs.Prelude.{◌≡◌, ◌+◌, ◌^◌, ℕ, List, length, filter, take, set, slice_get, Some, nat_lt, nat_le, if◌then◌else◌}
+use Rattle.std.specs.List.{sum_by, flat_map, remove, insert}
 use Rattle.hf_box.specs.Written.{bit, zero_ended}
 use Rattle.hf_info.specs.Infe.{content_text, uri_text}
-use Rattle.hf_store.specs.Layout.{info_of, has_bytes, has_props, in_idat}
+use Rattle.hf_store.specs.Layout.{own, is_wide, info_of, all_boxes, has_bytes, has_props, with_bytes, in_idat, idat_body, mdat_body}
 use Rattle.hf_store.specs.Store.{RefList, Item, Group, ItemStore}
+use Rattle.hf_store.specs.Table.{props_of}
+use Rattle.hf_store.specs.Valid.{body_sum}
 
 pub record Counts : Type 0 where
   -- items
@@ -126,6 +128,23 @@ abbrev pub counts_before : ℕ → List Item → Counts
 counts_before k is = counts_of_items (take k is)
 
 -- ---- laws
+
+-- what these counts are of the layout of a store
+pub record AreCounts (s : ItemStore) (c : Counts) : Type 0 where
+  pub items : c.items ≡ length s.items
+  pub located : c.located ≡ length (with_bytes s.items)
+  pub wide : nat_lt 0 c.wide ≡ is_wide s.items
+  pub links : c.links ≡ length (all_boxes s.items)
+  pub targets : c.targets ≡ sum_by (λ (i : Item). targets_of i.refs) s.items
+  pub holders : c.holders ≡ length (filter has_props s.items)
+  pub picks : c.picks ≡ length (flat_map props_of s.items)
+  pub idat : c.idat ≡ length (idat_body s.items)
+  pub mdat : c.mdat ≡ length (mdat_body own s.items)
+  pub body : c.idat + c.mdat ≡ body_sum s.items
+  pub groups : c.groups ≡ length s.groups
+
+abbrev pub CountsAreOfTheLayout : Type 0
+CountsAreOfTheLayout = (s : ItemStore) → AreCounts s (counts_of s)
 
 abbrev pub with_items : ItemStore → List Item → ItemStore
 with_items s is = record s { items = is }

@@ -10,6 +10,7 @@ pub mod Picks
 pub mod References
 pub mod Plain
 pub mod Seen
+pub mod Sizes
 pub mod Store
 pub mod Table
 pub mod Valid

@@ -1,6 +1,6 @@
 //! What is counted over a store. Each is the contract of a function that does nothing.
 
-ghost use Rattle.hf_store.specs.Counts.{ItemGoes, ItemComes, ItemChanges, GroupGoes, GroupComes, GroupChanges};
+ghost use Rattle.hf_store.specs.Counts.{CountsAreOfTheLayout, ItemGoes, ItemComes, ItemChanges, GroupGoes, GroupComes, GroupChanges};
 
 /// An item or a group that goes takes its counts with it, one that comes brings its own, and one
 /// that stands for another one does both.
@@ -11,4 +11,9 @@ pub fn counts_follow_changes()
     ensures group_goes { GroupGoes }
     ensures group_comes { GroupComes }
     ensures group_changes { GroupChanges }
+{}
+
+/// The counts are lengths of what is laid.
+pub fn counts_are_of_the_layout()
+    ensures { CountsAreOfTheLayout }
 {}
