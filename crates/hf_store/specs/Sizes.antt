@@ -121,20 +121,21 @@ file_size_by wide w n brands c inner = ftyp_size brands + meta_size_by wide w n 
 
 -- ---- laws
 
--- these are the lengths of the boxes that are laid, for any store
-pub record AreSizes (s : ItemStore) (n : ℕ) (c : Counts) (b : Inner) : Type 0 where
-  pub iinf : (wide : Bool) → wide ≡ is_wide s.items → length (box (four "iinf") (iinf_body wide (infos_of s.items))) ≡ iinf_size wide b
-  pub iref : (wide : Bool) → wide ≡ is_wide s.items → length (box_if_any (four "iref") (iref_body wide) (all_boxes s.items)) ≡ iref_size c b
+-- these are the lengths of the boxes that are laid
+pub record AreSizes (s : ItemStore) (wide : Bool) (n : ℕ) (c : Counts) (b : Inner) : Type 0 where
+  pub iinf : length (box (four "iinf") (iinf_body wide (infos_of s.items))) ≡ iinf_size wide b
+  pub iref : length (box_if_any (four "iref") (iref_body wide) (all_boxes s.items)) ≡ iref_size c b
   pub ipco : length (box (four "ipco") (ipco_body (table_of s))) ≡ ipco_size b
-  pub ipma : (wide : Bool) → length (box (four "ipma") (ipma_body wide (is_long_table (table_of s)) (assocs_of (table_of s) s.items))) ≡ ipma_size wide n c
-  pub iprp : (wide : Bool) → length (box (four "iprp") (iprp_body wide (iprp_of s))) ≡ iprp_size wide n c b
+  pub ipma : length (box (four "ipma") (ipma_body wide (is_long_table (table_of s)) (assocs_of (table_of s) s.items))) ≡ ipma_size wide n c
+  pub iprp : length (box (four "iprp") (iprp_body wide (iprp_of s))) ≡ iprp_size wide n c b
   pub grpl : length (box_if_any (four "grpl") grpl_body s.groups) ≡ grpl_size c b
   pub idat : length (box_if_any (four "idat") bytes_in (filter in_idat s.items)) ≡ idat_size c
-  pub iloc : (wide : Bool) (home : Homes) (w file_len : ℕ) → length (box (four "iloc") (iloc_body wide w (entries_of home file_len s.items))) ≡ iloc_size wide w c
-  pub meta : (wide : Bool) (home : Homes) (w file_len : ℕ) → wide ≡ is_wide s.items → length (box (four "meta") (meta_body home w file_len s)) ≡ meta_size_by wide w n c b
+  pub iloc : (home : Homes) (w file_len : ℕ) → length (box (four "iloc") (iloc_body wide w (entries_of home file_len s.items))) ≡ iloc_size wide w c
+  pub meta : (home : Homes) (w file_len : ℕ) → length (box (four "meta") (meta_body home w file_len s)) ≡ meta_size_by wide w n c b
   pub mdat : length (box (four "mdat") (mdat_body own s.items)) ≡ mdat_size c
   pub ftyp : IsFour s.brands.major → length (box (four "ftyp") (ftyp_body s.brands)) ≡ ftyp_size s.brands
-  pub file : (wide : Bool) (w file_len : ℕ) → wide ≡ is_wide s.items → IsFour s.brands.major → length (laid own w file_len s) ≡ file_size_by wide w n s.brands c b
+  pub file : (w file_len : ℕ) → IsFour s.brands.major → length (laid own w file_len s) ≡ file_size_by wide w n s.brands c b
 
+-- of any store, valid or not, whatever the headers of the boxes inside others
 abbrev pub SizesAreCounted : Type 0
-SizesAreCounted = (s : ItemStore) → AreSizes s (length (table_of s)) (counts_of s) (inner_of s)
+SizesAreCounted = (s : ItemStore) → AreSizes s (is_wide s.items) (length (table_of s)) (counts_of s) (inner_of s)

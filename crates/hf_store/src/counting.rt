@@ -1,5 +1,6 @@
 //! What is counted over a store. Each is the contract of a function that does nothing.
 
+ghost use Rattle.hf_store.specs.Sizes.{SizesAreCounted};
 ghost use Rattle.hf_store.specs.Counts.{CountsAreOfTheLayout, ItemGoes, ItemComes, ItemChanges, GroupGoes, GroupComes, GroupChanges};
 
 /// An item or a group that goes takes its counts with it, one that comes brings its own, and one
@@ -16,4 +17,10 @@ pub fn counts_follow_changes()
 /// The counts are lengths of what is laid.
 pub fn counts_are_of_the_layout()
     ensures { CountsAreOfTheLayout }
+{}
+
+/// The lengths of boxes follow from the counts, the number of distinct properties, and the bytes
+/// of the boxes inside others.
+pub fn sizes_are_counted()
+    ensures { SizesAreCounted }
 {}
