@@ -19,6 +19,7 @@ pub mod Reasons
 pub mod RefusedStores
 pub mod Removals
 pub mod Seen
+pub mod ShortSizes
 pub mod Sizes
 pub mod Spots
 pub mod Tables

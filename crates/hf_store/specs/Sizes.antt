@@ -139,3 +139,40 @@ pub record AreSizes (s : ItemStore) (wide : Bool) (n : ℕ) (c : Counts) (b : In
 -- of any store, valid or not, whatever the headers of the boxes inside others
 abbrev pub SizesAreCounted : Type 0
 SizesAreCounted = (s : ItemStore) → AreSizes s (is_wide s.items) (length (table_of s)) (counts_of s) (inner_of s)
+
+-- ---- inner boxes with headers of eight bytes
+
+-- whether ids take two bytes or four
+abbrev pub IsShortItem : Item → Type 0
+IsShortItem i = IsFour i.kind × (22 + strings_of i < 256 ^ 4)
+
+abbrev pub IsShortList : RefList → Type 0
+IsShortList r = IsFour r.kind × (length r.to ≤ limits.LINKS)
+
+abbrev pub IsShortProp : Prop → Type 0
+IsShortProp p = IsFour p.kind × (8 + length p.body < 256 ^ 4)
+
+abbrev pub IsShortGroup : Group → Type 0
+IsShortGroup g = IsFour g.kind × (20 + length g.entities * 4 + length g.tail < 256 ^ 4)
+
+-- each sum follows from the counts where its boxes are short, whatever the others are
+abbrev pub InfesAreCounted : Type 0
+InfesAreCounted = (s : ItemStore) (wide : Bool) → AllByRecursion IsShortItem s.items → infes_size wide s.items ≡ short_infes wide (counts_of s)
+
+abbrev pub LinksAreCounted : Type 0
+LinksAreCounted = (s : ItemStore) (wide : Bool) → AllByRecursion (λ (i : Item). AllByRecursion IsShortList i.refs) s.items → links_size wide s.items ≡ short_links wide (counts_of s)
+
+abbrev pub PropsAreCounted : Type 0
+PropsAreCounted = (ps : List Prop) → AllByRecursion IsShortProp ps → props_size ps ≡ short_props ps
+
+abbrev pub GroupsAreCounted : Type 0
+GroupsAreCounted = (s : ItemStore) → AllByRecursion IsShortGroup s.groups → groups_size s.groups ≡ short_groups (counts_of s)
+
+-- in a valid store all of them are short
+abbrev pub ValidIsShort : Type 0
+ValidIsShort = (s : ItemStore) → Valid s → inner_of s ≡ short_inner (is_wide s.items) (short_props (table_of s)) (counts_of s)
+
+-- so that all lengths follow from the counts, the number of distinct properties, and the bytes of their boxes
+abbrev pub ValidSizesAreCounted : Type 0
+ValidSizesAreCounted = (s : ItemStore) → Valid s
+    → AreSizes s (is_wide s.items) (length (table_of s)) (counts_of s) (short_inner (is_wide s.items) (short_props (table_of s)) (counts_of s))

@@ -1,6 +1,6 @@
 //! What is counted over a store. Each is the contract of a function that does nothing.
 
-ghost use Rattle.hf_store.specs.Sizes.{SizesAreCounted};
+ghost use Rattle.hf_store.specs.Sizes.{SizesAreCounted, InfesAreCounted, LinksAreCounted, PropsAreCounted, GroupsAreCounted, ValidIsShort, ValidSizesAreCounted};
 ghost use Rattle.hf_store.specs.Counts.{CountsAreOfTheLayout, ItemGoes, ItemComes, ItemChanges, GroupGoes, GroupComes, GroupChanges};
 
 /// An item or a group that goes takes its counts with it, one that comes brings its own, and one
@@ -23,4 +23,13 @@ pub fn counts_are_of_the_layout()
 /// of the boxes inside others.
 pub fn sizes_are_counted()
     ensures { SizesAreCounted }
+{}
+
+/// The bytes of the boxes inside others follow from the counts where their headers take eight
+/// bytes, as in each valid store.
+pub fn short_sizes_are_counted()
+    ensures infes { InfesAreCounted }
+    ensures links { LinksAreCounted }
+    ensures props { PropsAreCounted }
+    ensures groups { GroupsAreCounted }
 {}
