@@ -16,7 +16,7 @@ use Rattle.hf_links.specs.Grpl.{group_body, group_box}
 use Rattle.hf_links.specs.Iref.{reference_body, reference_box}
 use Rattle.hf_store.specs.Counts.{strings_of, targets_of, counts_of}
 use Rattle.hf_store.specs.Layout.{own, is_wide, info_of, item_boxes, all_boxes}
-use Rattle.hf_store.specs.Sizes.{Inner, infes_size, links_size, props_size, groups_size, inner_of, short_props, short_infes, short_links, short_groups, short_inner, meta_size_by, AreSizes, IsShortItem, IsShortList, IsShortProp, IsShortGroup, InfesAreCounted, LinksAreCounted, PropsAreCounted, GroupsAreCounted, ValidIsShort, ValidSizesAreCounted}
+use Rattle.hf_store.specs.Sizes.{Inner, infes_size, links_size, props_size, groups_size, inner_of, short_props, short_infes, short_links, short_groups, short_inner, ipma_size, AreSizes, IsShortItem, IsShortList, IsShortProp, IsShortGroup, InfesAreCounted, LinksAreCounted, PropsAreCounted, GroupsAreCounted, ValidIsShort, ValidSizesAreCounted}
 use Rattle.hf_store.specs.Store.{Prop, Held, RefList, Item, Group, ItemStore}
 use Rattle.hf_store.specs.Table.{same_prop, props_of, with_prop, table_of}
 use Rattle.hf_store.specs.Valid.{IsFour, IsGoodRef, IsGoodItem, IsGoodGroup, meta_len, Valid}
@@ -170,6 +170,9 @@ groups-le (g ∷ gs) =
     let size = groups_size (g ∷ gs) in
     subst (λ (b : Bool). size ≤ cond b 0 (box_len size)) (sym (eqb-suc-zero (length gs))) (omega (arith, le-box_len size))
 
+box_holds : (total n : ℕ) → total ≡ box_len n → n ≤ total
+box_holds total n e = omega (arith, e, le-box_len n)
+
 -- the inner boxes are no longer than `meta`
 record AreBelow (s : ItemStore) (top : ℕ) : Type 0 where
   infes : infes_size (is_wide s.items) s.items ≤ top
@@ -181,10 +184,41 @@ unfolding inner_of meta_len
 inner-below s =
     let wide = is_wide s.items in
     let c = counts_of s in
-    let meta = meta-counted s own 8 0 in
+    let meta = box_holds _ _ (meta-counted s own 8 0) in
+    let iinf = le-box_len (4 + id_width wide + infes_size wide s.items) in
+    let ipco = le-box_len (props_size (table_of s)) in
+    let iprp = le-box_len (box_len (props_size (table_of s)) + ipma_size wide (length (table_of s)) c) in
     let groups : groups_size s.groups ≤ cond (c.groups == 0) 0 (box_len (groups_size s.groups)) = subst (λ (n : ℕ). groups_size s.groups ≤ cond (n == 0) 0 (box_len (groups_size s.groups))) (sym (counts_are s).groups) (groups-le s.groups) in
     record {
-      infes = omega (arith, meta);
-      props = omega (arith, meta);
+      infes = omega (arith, meta, iinf);
+      props = omega (arith, meta, ipco, iprp);
       groups = omega (arith, meta, groups);
     }
+
+short_item : (all : List Item) (wide : Bool) (i : Item) → IsGoodItem all i → length (infe_box wide (info_of i)) ≤ limits.META → IsShortItem i
+short_item all wide i good small =
+    (good.kind, omega (arith, small, length-box (four "infe") (infe_body wide (info_of i)) refl, le-box_len (length (infe_body wide (info_of i))), infe_body-size wide i good.kind, ge-width wide))
+
+short_group : (all : List Item) (g : Group) → IsGoodGroup all g → length (group_box g) ≤ limits.META → IsShortGroup g
+short_group all g good small = (good.kind, omega (arith, small, length-box g.kind (group_body g) good.kind, le-box_len (length (group_body g)), group_body-size g))
+
+short_prop : (p : Prop) → IsFour p.kind → length (box p.kind p.body) ≤ limits.META → IsShortProp p
+short_prop p kind small = (kind, omega (arith, small, length-box p.kind p.body kind, le-box_len (length p.body)))
+
+short_lists : (all : List Item) (i : Item) → IsGoodItem all i → AllByRecursion IsShortList i.refs
+short_lists all i good = all_of (IsGoodRef all) IsShortList i.refs good.refs (λ r ref. (ref.kind, ref.links))
+
+pub valid_is_short : ValidIsShort
+unfolding inner_of
+valid_is_short s valid =
+    let wide = is_wide s.items in
+    let below = inner-below s in
+    let infes = infes_are_counted s wide (all_below (λ (i : Item). length (infe_box wide (info_of i))) (IsGoodItem s.items) IsShortItem limits.META s.items valid.items (omega (arith, below.infes, valid.meta)) (short_item s.items wide)) in
+    let links = links_are_counted s wide (all_of (IsGoodItem s.items) (λ (i : Item). AllByRecursion IsShortList i.refs) s.items valid.items (short_lists s.items)) in
+    let props = props_are_counted (table_of s) (all_below (λ (p : Prop). length (box p.kind p.body)) FourProp IsShortProp limits.META (table_of s) (four_table s valid.items) (omega (arith, below.props, valid.meta)) short_prop) in
+    let groups = groups_are_counted s (all_below (λ (g : Group). length (group_box g)) (IsGoodGroup s.items) IsShortGroup limits.META s.groups valid.groups (omega (arith, below.groups, valid.meta)) (short_group s.items)) in
+    rw (infes, links, props, groups) refl
+
+pub valid_sizes_are_counted : ValidSizesAreCounted
+valid_sizes_are_counted s valid =
+    subst (λ (b : Inner). AreSizes s (is_wide s.items) (length (table_of s)) (counts_of s) b) (valid_is_short s valid) (sizes_are_counted s)

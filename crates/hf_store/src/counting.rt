@@ -32,4 +32,11 @@ pub fn short_sizes_are_counted()
     ensures links { LinksAreCounted }
     ensures props { PropsAreCounted }
     ensures groups { GroupsAreCounted }
+    ensures valid { ValidIsShort }
+{}
+
+/// The lengths of the boxes of a valid store follow from the counts, the number of distinct
+/// properties, and the bytes of their boxes.
+pub fn valid_sizes_are_counted()
+    ensures { ValidSizesAreCounted }
 {}
