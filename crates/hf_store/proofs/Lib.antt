@@ -1,5 +1,7 @@
 pub mod BareLengths
 pub mod BoxLengths
+pub mod Counted
+pub mod CountsAre
 pub mod Ends
 pub mod FieldLengths
 pub mod GridFiles
@@ -17,6 +19,8 @@ pub mod Reasons
 pub mod RefusedStores
 pub mod Removals
 pub mod Seen
+pub mod ShortSizes
+pub mod Sizes
 pub mod Spots
 pub mod Tables
 pub mod ValidStores

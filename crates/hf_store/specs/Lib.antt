@@ -1,5 +1,6 @@
 pub mod BadStores
 pub mod Changes
+pub mod Counts
 pub mod Derived
 pub mod LargeStores
 pub mod Layout
@@ -9,6 +10,7 @@ pub mod Picks
 pub mod References
 pub mod Plain
 pub mod Seen
+pub mod Sizes
 pub mod Store
 pub mod Table
 pub mod Valid

@@ -3,6 +3,7 @@
 
 pub mod broken;
 pub mod changed;
+pub mod counting;
 pub mod derived;
 pub mod grids;
 mod item;

@@ -1,0 +1,42 @@
+//! What is counted over a store. Each is the contract of a function that does nothing.
+
+ghost use Rattle.hf_store.specs.Sizes.{SizesAreCounted, InfesAreCounted, LinksAreCounted, PropsAreCounted, GroupsAreCounted, ValidIsShort, ValidSizesAreCounted};
+ghost use Rattle.hf_store.specs.Counts.{CountsAreOfTheLayout, ItemGoes, ItemComes, ItemChanges, GroupGoes, GroupComes, GroupChanges};
+
+/// An item or a group that goes takes its counts with it, one that comes brings its own, and one
+/// that stands for another one does both.
+pub fn counts_follow_changes()
+    ensures item_goes { ItemGoes }
+    ensures item_comes { ItemComes }
+    ensures item_changes { ItemChanges }
+    ensures group_goes { GroupGoes }
+    ensures group_comes { GroupComes }
+    ensures group_changes { GroupChanges }
+{}
+
+/// The counts are lengths of what is laid.
+pub fn counts_are_of_the_layout()
+    ensures { CountsAreOfTheLayout }
+{}
+
+/// The lengths of boxes follow from the counts, the number of distinct properties, and the bytes
+/// of the boxes inside others.
+pub fn sizes_are_counted()
+    ensures { SizesAreCounted }
+{}
+
+/// The bytes of the boxes inside others follow from the counts where their headers take eight
+/// bytes, as in each valid store.
+pub fn short_sizes_are_counted()
+    ensures infes { InfesAreCounted }
+    ensures links { LinksAreCounted }
+    ensures props { PropsAreCounted }
+    ensures groups { GroupsAreCounted }
+    ensures valid { ValidIsShort }
+{}
+
+/// The lengths of the boxes of a valid store follow from the counts, the number of distinct
+/// properties, and the bytes of their boxes.
+pub fn valid_sizes_are_counted()
+    ensures { ValidSizesAreCounted }
+{}
