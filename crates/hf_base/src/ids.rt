@@ -28,6 +28,15 @@ impl Ids {
         }
     }
 
+    /// No ids, and room for so many. `NoMemory` comes where memory was refused.
+    pub fn with_capacity(alloc: Global, capacity: usize) -> Result<Ids, NoMemory>
+        ensures { IfOk result (λ i. i ≡ []) }
+    {
+        Ok(Ids {
+            list: Vec::with_capacity(alloc, capacity)?,
+        })
+    }
+
     /// One more id at the end. After `NoMemory` the list is as before.
     pub fn push(&mut self, id: u32) -> Result<(), NoMemory>
         ensures pushed { OnOk result (self.new ≡ self.old ++ id ∷ []) }

@@ -33,7 +33,7 @@ frames_least (suc n) top at (x ∷ xs) boxes e =
     let a = bind_ok (box_at top at bytes) (Others n top) boxes (sym (frames_cons n top at bytes (omega arith)) ∙ e) in
     let b = bind_ok (frames_within n top (end_of a.0.0) a.0.1) (λ others. Ok (a.0.0 ∷ others)) boxes a.2 in
     let more = frames_least n top (end_of a.0.0) a.0.1 b.0 b.1 in
-    subst (λ (bs : List BoxAt). frames_within (length bs) top at bytes ≡ Ok bs) (ok_is (a.0.0 ∷ b.0) boxes b.2) (one_more (length b.0) top at bytes a.0 b.0 (omega arith) a.1 more)
+    subst (λ (bs : List BoxAt). frames_within (length bs) top at bytes ≡ Ok bs) {x = a.0.0 ∷ b.0} (ok_is (a.0.0 ∷ b.0) boxes b.2) (one_more (length b.0) top at bytes a.0 b.0 (omega arith) a.1 more)
 
 abbrev fine : List BoxAt → Result (List BoxAt) ReadRefusal
 fine boxes = Ok boxes

@@ -1,6 +1,6 @@
 //! Ids one behind the other, as they are read and as they are written.
 
-ghost use Rattle.std.specs.Prelude.{◌≡◌, ◌⊎◌, ◌<◌, ◌^◌, true, false, length, IfOk, All};
+ghost use Rattle.std.specs.Prelude.{◌≡◌, ◌⊎◌, ◌<◌, ◌≤◌, ◌*◌, ◌^◌, true, false, length, IfOk, All};
 ghost use Rattle.std.specs.List.{flat_map};
 ghost use Rattle.hf_base.specs.Number.{num};
 ghost use Rattle.hf_base.specs.Reading.{Gives, front, times};
@@ -12,8 +12,17 @@ use hf_base::{Ids, OpenFault, ReadRefusal, be_put, front_id};
 use hf_desk::{Desk, Page, Put, WriteFault};
 use std::alloc::Global;
 
-/// So many ids of `width` bytes, one behind the other, and the bytes after them. Memory is asked for as
-/// they are read, so that a count which the bytes cannot hold asks for none.
+/// How many of so many ids of `width` bytes `len` bytes can hold.
+fn room(width: u8, count: u32, len: usize) -> usize
+    requires { (width ≡ 2) ⊎ (width ≡ 4) }
+    ensures wanted { result ≤ count }
+    ensures held { result * width ≤ len }
+{
+    (len / width as usize).min(count as usize)
+}
+
+/// So many ids of `width` bytes, one behind the other, and the bytes after them. Memory is asked for once,
+/// and for no more ids than the bytes can hold.
 pub fn front_ids<'a>(
     alloc: Global,
     width: u8,
@@ -25,7 +34,7 @@ pub fn front_ids<'a>(
     ensures exact { Gives (λ x. (x.0, x.1.now)) result (times (front width short) count bytes.now) }
     ensures count { IfOk result (λ x. length x.0 ≡ count) }
 {
-    let mut ids = Ids::new(alloc);
+    let mut ids = Ids::with_capacity(alloc, room(width, count, bytes.len()))?;
     let mut rest = bytes;
     for _ in 0..count {
         let (id, after) = front_id(width, rest, short)?;

@@ -6,7 +6,7 @@ use Rattle.hf_links.proofs.ids.front_ids.Goals as goal
 
 pub returns-in_err-id-clause-exact : goal.returns-in_err-id-clause-exact
 returns-in_err-id-clause-exact c =
-    let p = err_from_is_err_and c.from_residual.result c.from_residual.ensures.1 in
+    let p = err_from_is_err_and c.from_residual-in_err-id.result c.from_residual-in_err-id.ensures.1 in
     let read = front c.args.width c.args.short in
     rw (p.1, p.2) (stops read c.loop.ids (c.args.count - c.loop.counter) (c.args.count - (c.loop.counter + 1)) c.loop.rest.now c.in_err-id.field-0.0 (times read c.args.count c.args.bytes.now) (omega arith) c.in_err-id.ensures c.loop.invariant.read)
 
