@@ -1,12 +1,10 @@
 -- What levels do: where an item has bytes, more levels change nothing; where items lie in each other, no level gives bytes.
-use Rattle.std.proofs.Common.{◌≡◌, ℕ, zero, suc, ◌+◌, ◌≤◌, Bool, true, false, List, length, map, refl, sym, ap, ◌∙◌, arith, Option, Some, None, Ok}
-use Rattle.std.specs.Prelude.{◌==◌}
+use Rattle.std.proofs.Common.{◌≡◌, ℕ, zero, suc, ◌≤◌, Bool, true, false, List, length, refl, sym, ◌∙◌, arith, Option, Some, None, Ok}
 use Rattle.std.proofs.lemmas.Bool.{false≢true, eq-eqb}
-use Rattle.hf_base.specs.declared.loc.Extent.{Extent}
-use Rattle.hf_base.specs.Located.{Located, source_of}
+use Rattle.hf_base.specs.Located.{Located}
 use Rattle.hf_base.specs.Members.{IsIn}
-use Rattle.hf_base.specs.Levels.{over, told}
-use Rattle.hf_base.specs.BytesOf.{by_method, piece_in, bytes_in, bytes_at, bytes_of}
+use Rattle.hf_base.specs.Levels.{over}
+use Rattle.hf_base.specs.BytesOf.{bytes_in, bytes_at, bytes_of}
 use Rattle.hf_base.specs.Counts.{ends_in, ends}
 use Rattle.hf_base.specs.Chains.{LiesIn, IsEndlessChain, by_turns}
 use Rattle.hf_base.specs.LocationFaults.{locations_fault}

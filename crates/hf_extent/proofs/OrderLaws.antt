@@ -1,11 +1,11 @@
 -- An order of places tells where unfolding ends, and what is known before each place.
-use Rattle.std.proofs.Common.{◌≡◌, ℕ, zero, suc, ◌+◌, ◌-◌, ◌<◌, ◌≤◌, Bool, true, false, ◌&&◌, ◌⊎◌, inl, inr, List, [], ◌∷◌, ◌++◌, length, map, take, get_or, refl, sym, ap, ◌∙◌, arith, Option, Some, None, Ok, cond, eqb, subst}
-use Rattle.std.specs.Prelude.{◌==◌, not, slice_get, if◌then◌else◌}
+use Rattle.std.proofs.Common.{◌≡◌, ℕ, zero, suc, ◌+◌, ◌<◌, ◌≤◌, Bool, true, false, ◌&&◌, ◌⊎◌, inl, inr, List, [], ◌∷◌, length, take, get_or, refl, sym, ap, ◌∙◌, arith, Option, Some, None, Ok, eqb, subst}
+use Rattle.std.specs.Prelude.{◌==◌, slice_get}
 use Rattle.std.specs.List.{list_all, list_any, filter_map, IsDistinct}
 use Rattle.std.proofs.lemmas.List.{take_more}
-use Rattle.std.specs.Option.{option_map, option_and_then, option_to_list, is_none}
+use Rattle.std.specs.Option.{option_map, option_and_then, is_none}
 use Rattle.std.proofs.lemmas.Bool.{cases_Bool, false≢true, eqb-true}
-use Rattle.std.proofs.lemmas.Option.{slice_get-get_or, slice_get_within, slice_get_past, some_pair_parts}
+use Rattle.std.proofs.lemmas.Option.{slice_get_within, some_pair_parts}
 use Rattle.std.proofs.lemmas.Map.Steps.{length-le_from_distinct_below}
 use Rattle.hf_base.specs.declared.loc.Extent.{Extent}
 use Rattle.hf_base.specs.Located.{Located, source_of, id_at}
@@ -19,7 +19,7 @@ use Rattle.hf_base.specs.declared.fault.ReadRefusal.TheVariants.{BadIndex}
 use Rattle.hf_base.proofs.LevelLaws.{stable, all_from, ends_local, in_item}
 use Rattle.hf_base.proofs.FaultLaws.{none_has}
 use Rattle.hf_base.proofs.BytesLaws.{any_not}
-use Rattle.hf_extent.specs.Places.{AreAt, id_place, place_of, item_links, links_from}
+use Rattle.hf_extent.specs.Places.{AreAt, place_of, item_links, links_from}
 use Rattle.hf_order.specs.Order.{AreWithin, IsOrder}
 use Rattle.hf_order.proofs.Members.{all_from as each_of, in_front, in_back, in_joined, in_at, decided}
 use Rattle.hf_extent.proofs.PlaceLaws.{source_found, place_within, length_at}

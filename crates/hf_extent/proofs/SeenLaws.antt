@@ -1,10 +1,9 @@
 -- What the order tells of the items in the code.
-use Rattle.std.proofs.Common.{◌≡◌, ℕ, ◌<◌, ◌≤◌, Bool, true, false, List, length, map, get_or, refl, sym, ap, ◌∙◌, arith, Option, Some}
+use Rattle.std.proofs.Common.{◌≡◌, ℕ, ◌<◌, ◌≤◌, true, false, List, length, get_or, refl, ap, ◌∙◌, arith, Some}
 use Rattle.std.specs.Prelude.{slice_get, nat_lt}
 use Rattle.std.proofs.lemmas.Bool.{ltb-false, ltb-true}
 use Rattle.std.specs.Option.{option_map}
-use Rattle.std.proofs.lemmas.Option.{slice_get-get_or, slice_get_read, slice_get-map}
-use Rattle.hf_base.specs.Located.{Located as Stated}
+use Rattle.std.proofs.lemmas.Option.{slice_get_read, slice_get-map}
 use Rattle.hf_base.specs.Counts.{ends}
 use Rattle.hf_extent.specs.declared.items.Located.{Located}
 use Rattle.hf_extent.specs.Seen.{item_seen, items_seen}
