@@ -1,9 +1,9 @@
 -- Places without a fault have bytes, and as many as their extents state.
-use Rattle.std.proofs.Common.{◌≡◌, ℕ, zero, suc, ◌+◌, ◌-◌, ◌<◌, ◌≤◌, Bool, true, false, ◌&&◌, ◌⊎◌, inl, inr, List, [], ◌∷◌, ◌++◌, length, map, take, drop, refl, sym, ap, ◌∙◌, arith, Option, Some, None, sum, cond, Ok, length-append}
+use Rattle.std.proofs.Common.{◌≡◌, ℕ, zero, suc, ◌+◌, ◌≤◌, Bool, true, false, ◌&&◌, inl, inr, List, [], ◌∷◌, ◌++◌, length, map, take, drop, refl, sym, ap, ◌∙◌, arith, Option, Some, None, sum, Ok, length-append}
 use Rattle.std.specs.Prelude.{◌==◌, not, nat_lt, if◌then◌else◌}
-use Rattle.std.specs.List.{list_any, find}
-use Rattle.std.specs.Option.{option_map, option_and_then, is_none}
-use Rattle.std.proofs.lemmas.Bool.{cases_Bool, false≢true, ltb-true, lt-ltb, le-ltb}
+use Rattle.std.specs.List.{list_any}
+use Rattle.std.specs.Option.{option_and_then, is_none}
+use Rattle.std.proofs.lemmas.Bool.{cases_Bool, false≢true, lt-ltb}
 use Rattle.std.proofs.lemmas.Bool.Decides.{nat_tests}
 use Rattle.std.proofs.lemmas.List.{length-drop, length-take-le}
 use Rattle.std.proofs.lemmas.List.Sums.{sum_by-cons}
@@ -13,9 +13,9 @@ use Rattle.hf_base.specs.Located.{Located, item_with, source_of, id_at}
 use Rattle.hf_base.specs.Members.{IsIn}
 use Rattle.hf_base.specs.Levels.{over, told}
 use Rattle.hf_base.specs.BytesOf.{by_method, piece_in, bytes_in, bytes_of, joined_pieces, piece_of}
-use Rattle.hf_base.specs.Counts.{ends_in, ends, source_size, extent_size, size_in, size_of, inner_size}
+use Rattle.hf_base.specs.Counts.{ends_in, ends, extent_size, size_in, size_of, inner_size}
 use Rattle.hf_base.specs.LocationFaults.{passes, has_extents, has_bad_method, lacks_idat, has_bad_index, is_endless, is_out_of_file, is_out_of_idat, is_out_of_item, bad_method_fault, no_idat_fault, bad_index_fault, loc_cycle_fault, out_of_file_fault, out_of_idat_fault, out_of_item_fault, locations_fault}
-use Rattle.hf_base.proofs.LevelLaws.{stable, source_ends, in_item, size_local}
+use Rattle.hf_base.proofs.LevelLaws.{stable, source_ends, size_local}
 use Rattle.hf_base.proofs.FaultLaws.{AreFine, none_has, parts_fine}
 
 -- ---- members

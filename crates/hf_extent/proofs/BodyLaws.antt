@@ -1,28 +1,26 @@
 -- The bytes of items are gathered extent by extent, in an order of the items.
-use Rattle.std.proofs.Common.{◌≡◌, ℕ, zero, suc, ◌+◌, ◌-◌, ◌<◌, ◌≤◌, ◌^◌, Bool, true, false, ◌⊎◌, inl, inr, List, [], ◌∷◌, ◌++◌, length, map, take, get_or, set, refl, sym, ap, subst, ◌∙◌, arith, Option, Some, None, Ok, Err, sum, append_assoc, length-append, cond}
-use Rattle.std.specs.Prelude.{◌==◌, slice_get, nat_lt, IsSome, if◌then◌else◌}
-use Rattle.std.specs.List.{list_any}
+use Rattle.std.proofs.Common.{◌≡◌, ℕ, zero, suc, ◌+◌, ◌<◌, ◌≤◌, ◌^◌, true, inl, inr, List, [], ◌∷◌, ◌++◌, length, map, take, get_or, set, refl, sym, ap, subst, ◌∙◌, arith, Option, Some, None, Ok, sum, append_assoc, length-append}
+use Rattle.std.specs.Prelude.{◌==◌, slice_get, nat_lt, IsSome}
 use Rattle.std.specs.Option.{option_map, option_and_then, ForSome}
 use Rattle.std.proofs.lemmas.Bool.{cases_Bool, false≢true, eqb-true, lt-ltb, cases_lt}
 use Rattle.std.proofs.lemmas.Bool.Decides.{nat_tests}
-use Rattle.std.proofs.lemmas.List.{append-nil, length-map}
+use Rattle.std.proofs.lemmas.List.{append-nil}
 use Rattle.std.proofs.lemmas.List.Sums.{sum_by-cons}
-use Rattle.std.proofs.lemmas.List.Folds.{list_any_more}
 use Rattle.hf_base.specs.declared.limits.TheConstants.{BODY}
 use Rattle.hf_base.specs.declared.fault.ReadRefusal.TheVariants.{TooManyBytes}
 use Rattle.std.proofs.lemmas.Option.{slice_get-map}
 use Rattle.hf_pieces.specs.Bytes.{joined}
 use Rattle.hf_base.specs.declared.loc.Extent.{Extent}
-use Rattle.hf_base.specs.Located.{Located, source_of}
+use Rattle.hf_base.specs.Located.{Located}
 use Rattle.hf_base.specs.Members.{IsIn}
 use Rattle.hf_base.specs.Levels.{told}
-use Rattle.hf_base.specs.BytesOf.{by_method, piece_of, piece_in, bytes_in, bytes_of, joined_pieces}
-use Rattle.hf_base.specs.Counts.{ends, size_of, inner_size}
+use Rattle.hf_base.specs.BytesOf.{piece_of, piece_in, bytes_of, joined_pieces}
+use Rattle.hf_base.specs.Counts.{size_of, inner_size}
 use Rattle.hf_base.specs.LocationFaults.{locations_fault, too_many_bytes_fault, limited}
 use Rattle.hf_base.proofs.LevelLaws.{map_same, bytes_are, in_item_same}
 use Rattle.hf_base.proofs.FaultLaws.{parts_fine}
 use Rattle.hf_base.proofs.BytesLaws.{bytes_there, not_endless}
-use Rattle.hf_extent.specs.Places.{AreAt, place_of, links_from}
+use Rattle.hf_extent.specs.Places.{AreAt, links_from}
 use Rattle.hf_order.specs.Order.{IsOrder}
 use Rattle.hf_extent.specs.Known.{piece_by, bytes_by}
 use Rattle.hf_extent.proofs.PlaceLaws.{length_at}

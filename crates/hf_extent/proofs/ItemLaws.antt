@@ -1,7 +1,7 @@
 -- One entry or one box of references more changes one item.
-use Rattle.std.proofs.Common.{◌≡◌, ℕ, zero, suc, ◌+◌, ◌<◌, Bool, true, false, ◌&&◌, ◌⊎◌, inl, inr, List, [], ◌∷◌, ◌++◌, length, map, take, get_or, set, refl, sym, ap, ◌∙◌, arith, Option, Some, None, Result, Ok, Err}
+use Rattle.std.proofs.Common.{◌≡◌, ℕ, zero, suc, ◌+◌, ◌<◌, Bool, true, false, ◌&&◌, inl, inr, List, [], ◌∷◌, ◌++◌, length, map, take, get_or, set, refl, sym, ap, ◌∙◌, arith, Option, Some, None, Result, Ok, Err}
 use Rattle.std.specs.Result.{OnOk}
-use Rattle.std.specs.Prelude.{◌==◌, not, slice_get, filter}
+use Rattle.std.specs.Prelude.{◌==◌, not, filter}
 use Rattle.std.specs.List.{find, flat_map}
 use Rattle.std.specs.Option.{option_or}
 use Rattle.std.specs.Str.{bytes_eq}
@@ -165,7 +165,7 @@ has_later (x ∷ xs) zero id l less is same =
     rw here refl
 has_later (x ∷ xs) (suc i) id l less is same =
     let rest = has_later xs i id l (omega arith) is same in
-    elim (cases_Bool (x.id == id)) [ | inl here ↦ rw here refl | inr other ↦ rw (other, rest) refl ]
+    elim (cases_Bool (x.id == id)) [ inl here ↦ rw here refl | inr other ↦ rw (other, rest) refl ]
 
 pub none_before : (locs : List Loc) (i : ℕ) (l : Loc) → HaveDistinctIds locs → i < length locs → l ≡ get_or locs i l → loc_of l.id (take i locs) ≡ None
 none_before [] i l distinct less is = absurd (omega arith)
@@ -178,7 +178,7 @@ none_before (x ∷ xs) (suc i) l distinct less is =
           let later : has_id x.id (map (λ (y : Loc). y.id) xs) ≡ true = has_later xs i x.id l (omega arith) is (sym (eqb-true x.id l.id same)) in
           let no : not (has_id x.id (map (λ (y : Loc). y.id) xs)) ≡ false = rw later refl in
           absurd (false≢true (sym no ∙ parts.0))
-        )
+          )
       | inr other ↦ (let e : loc_of l.id (x ∷ take i xs) ≡ loc_of l.id (take i xs) = rw other refl in e ∙ rest)
     ]
 

@@ -1,11 +1,11 @@
 -- An order of places tells where unfolding ends, and what is known before each place.
-use Rattle.std.proofs.Common.{◌≡◌, ℕ, zero, suc, ◌+◌, ◌-◌, ◌<◌, ◌≤◌, Bool, true, false, ◌&&◌, ◌⊎◌, inl, inr, List, [], ◌∷◌, ◌++◌, length, map, take, get_or, refl, sym, ap, ◌∙◌, arith, Option, Some, None, Ok, cond, eqb, subst}
-use Rattle.std.specs.Prelude.{◌==◌, not, slice_get, if◌then◌else◌}
+use Rattle.std.proofs.Common.{◌≡◌, ℕ, zero, suc, ◌+◌, ◌<◌, ◌≤◌, Bool, true, false, ◌&&◌, ◌⊎◌, inl, inr, List, [], ◌∷◌, length, take, get_or, refl, sym, ap, ◌∙◌, arith, Option, Some, None, Ok, eqb, subst}
+use Rattle.std.specs.Prelude.{◌==◌, slice_get}
 use Rattle.std.specs.List.{list_all, list_any, filter_map, IsDistinct}
 use Rattle.std.proofs.lemmas.List.{take_more}
-use Rattle.std.specs.Option.{option_map, option_and_then, option_to_list, is_none}
+use Rattle.std.specs.Option.{option_map, option_and_then, is_none}
 use Rattle.std.proofs.lemmas.Bool.{cases_Bool, false≢true, eqb-true}
-use Rattle.std.proofs.lemmas.Option.{slice_get-get_or, slice_get_within, slice_get_past, some_pair_parts}
+use Rattle.std.proofs.lemmas.Option.{slice_get_within, some_pair_parts}
 use Rattle.std.proofs.lemmas.Map.Steps.{length-le_from_distinct_below}
 use Rattle.hf_base.specs.declared.loc.Extent.{Extent}
 use Rattle.hf_base.specs.Located.{Located, source_of, id_at}
@@ -19,7 +19,7 @@ use Rattle.hf_base.specs.declared.fault.ReadRefusal.TheVariants.{BadIndex}
 use Rattle.hf_base.proofs.LevelLaws.{stable, all_from, ends_local, in_item}
 use Rattle.hf_base.proofs.FaultLaws.{none_has}
 use Rattle.hf_base.proofs.BytesLaws.{any_not}
-use Rattle.hf_extent.specs.Places.{AreAt, id_place, place_of, item_links, links_from}
+use Rattle.hf_extent.specs.Places.{AreAt, place_of, item_links, links_from}
 use Rattle.hf_order.specs.Order.{AreWithin, IsOrder}
 use Rattle.hf_order.proofs.Members.{all_from as each_of, in_front, in_back, in_joined, in_at, decided}
 use Rattle.hf_extent.proofs.PlaceLaws.{source_found, place_within, length_at}
@@ -60,7 +60,7 @@ where_in (x ∷ xs) (suc i) k (inr later) = let rest = where_in xs i k later in 
 pub in_before : (xs : List ℕ) (i k : ℕ) → i < length xs → IsIn k (take (i + 1) xs) → (get_or xs i 0 ≡ k → ⊥) → IsIn k (take i xs)
 in_before xs i k less is other = elim (in_joined k (take i xs) (get_or xs i 0 ∷ []) (subst (λ (l : List ℕ). IsIn k l) (take_more xs i 0 less) is)) [
   | inl before ↦ before
-  | inr last ↦ elim last [ | inl same ↦ absurd (other same) | inr none ↦ absurd none ]
+  | inr last ↦ elim last [ inl same ↦ absurd (other same) | inr none ↦ absurd none ]
 ]
 
 -- ---- links
@@ -214,12 +214,12 @@ unfolding IsDistinct
 distinct_from [] each = tt
 distinct_from (x ∷ xs) each = (
   each_of (λ (y : ℕ). eqb x y ≡ false) xs (λ y is.
-    let k = in_at y xs is in
-    let less : k.0 < length xs = k.1 in
-    elim (cases_Bool (eqb x y)) [
-      | inl same ↦ absurd (each (suc k.0) (omega arith) (inl (eqb-true x y same ∙ sym k.2)))
-      | inr differs ↦ differs
-    ]),
+      let k = in_at y xs is in
+      let less : k.0 < length xs = k.1 in
+      elim (cases_Bool (eqb x y)) [
+        | inl same ↦ absurd (each (suc k.0) (omega arith) (inl (eqb-true x y same ∙ sym k.2)))
+        | inr differs ↦ differs
+      ]),
   distinct_from xs (λ k less later. each (suc k) (omega arith) (inr later)),
 )
 
@@ -258,6 +258,6 @@ ends_in_order ids items order named ordered a r at ending = elim (decided a orde
 -- both ends of a link are places
 pub links_within : (ids : List ℕ) (items : List Located) → AreAt ids items → AreWithin (length ids) (links_from ids 0 items)
 links_within ids items at = each_of (λ (p : ℕ × ℕ). (p.0 < length ids) × (p.1 < length ids)) (links_from ids 0 items) (λ p is.
-  let link = link_from ids 0 items p.0 p.1 is in
-  let within : link.0 < length items = slice_get_within items link.0 link.2.item link.2.at in
-  (omega (arith, link.1, within, length_at ids items at), place_within ids (id_at link.2.extent.index link.2.item.sources) p.1 link.2.found))
+    let link = link_from ids 0 items p.0 p.1 is in
+    let within : link.0 < length items = slice_get_within items link.0 link.2.item link.2.at in
+    (omega (arith, link.1, within, length_at ids items at), place_within ids (id_at link.2.extent.index link.2.item.sources) p.1 link.2.found))

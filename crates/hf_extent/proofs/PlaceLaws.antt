@@ -1,14 +1,14 @@
 -- Items by their places among ids that rise.
-use Rattle.std.proofs.Common.{◌≡◌, ℕ, zero, suc, ◌+◌, ◌<◌, ◌≤◌, Bool, true, false, List, [], ◌∷◌, ◌++◌, length, map, take, get_or, refl, sym, ap, ◌∙◌, arith, Option, Some, None, inl, inr, ◌⊎◌, cond, Result, Ok, Err, eqb, ltb}
-use Rattle.std.specs.Prelude.{◌==◌, not, slice_get, nat_lt, if◌then◌else◌}
-use Rattle.std.specs.List.{find, list_any, position, position_or_len, prefix_len}
+use Rattle.std.proofs.Common.{◌≡◌, ℕ, zero, suc, ◌+◌, ◌<◌, ◌≤◌, Bool, true, false, List, [], ◌∷◌, length, map, get_or, refl, sym, ap, ◌∙◌, arith, Option, Some, None, inl, inr, cond}
+use Rattle.std.specs.Prelude.{◌==◌, not, slice_get, nat_lt}
+use Rattle.std.specs.List.{list_any, position_or_len, prefix_len}
 use Rattle.std.specs.Option.{option_and_then, is_none}
-use Rattle.std.proofs.lemmas.Bool.{ltb-true, eqb-true, lt-ltb, le-ltb, cases_lt}
+use Rattle.std.proofs.lemmas.Bool.{lt-ltb, le-ltb, cases_lt}
 use Rattle.std.proofs.lemmas.Bool.Decides.{nat_tests}
 use Rattle.std.proofs.lemmas.List.{length-map}
-use Rattle.std.proofs.lemmas.List.Sums.{position_or_len_is, prefix_len-le-length}
+use Rattle.std.proofs.lemmas.List.Sums.{position_or_len_is}
 use Rattle.std.proofs.lemmas.List.Folds.{find_at}
-use Rattle.std.proofs.lemmas.Option.{slice_get_past, slice_get-get_or, slice_get_within}
+use Rattle.std.proofs.lemmas.Option.{slice_get_past}
 use Rattle.hf_base.specs.declared.loc.Extent.{Extent}
 use Rattle.hf_base.specs.Located.{Located, item_with, source_of, id_at}
 use Rattle.hf_base.specs.LocationFaults.{has_bad_index}

@@ -1,24 +1,20 @@
 -- Totals that stop at a greatest number.
-use Rattle.std.proofs.Common.{◌≡◌, ℕ, zero, suc, ◌+◌, ◌-◌, ◌<◌, ◌≤◌, ◌^◌, Bool, true, false, ◌⊎◌, inl, inr, List, [], ◌∷◌, ◌++◌, length, map, take, get_or, set, refl, sym, ap, subst, ◌∙◌, arith, Option, Some, None, Ok, Err, Result, sum, min, get_or-set_same, get_or-set_other}
+use Rattle.std.proofs.Common.{◌≡◌, ℕ, zero, suc, ◌+◌, ◌-◌, ◌<◌, ◌≤◌, ◌^◌, true, false, inl, inr, List, [], ◌∷◌, length, map, take, get_or, set, refl, sym, ap, subst, ◌∙◌, arith, Option, Some, None, Ok, Err, sum, min, get_or-set_same, get_or-set_other}
 use Rattle.std.specs.Prelude.{◌==◌, slice_get, nat_lt, if◌then◌else◌}
-use Rattle.std.specs.List.{list_any, sum_by}
 use Rattle.std.proofs.lemmas.Bool.{cases_Bool, false≢true, eqb-true, cases_lt, lt-ltb, le-ltb}
 use Rattle.std.proofs.lemmas.Bool.Decides.{nat_tests}
 use Rattle.std.proofs.lemmas.List.Sums.{sum-map, sum_by_more, sum_by-cons}
-use Rattle.std.proofs.lemmas.List.Folds.{list_any_more}
 use Rattle.std.specs.Option.{option_map, option_and_then}
-use Rattle.std.proofs.lemmas.Option.{slice_get-get_or, slice_get_within, slice_get-map, get_or_from_slice_get}
+use Rattle.std.proofs.lemmas.Option.{slice_get-map, get_or_from_slice_get}
 use Rattle.hf_base.specs.declared.fault.ReadRefusal.{ReadRefusal}
-use Rattle.hf_base.specs.declared.fault.ReadRefusal.TheVariants.{LocCycle}
 use Rattle.hf_base.specs.declared.loc.Extent.{Extent}
 use Rattle.hf_base.specs.Located.{Located, source_of}
 use Rattle.hf_base.specs.Members.{IsIn}
 use Rattle.hf_base.specs.Levels.{told}
 use Rattle.hf_base.specs.BytesOf.{by_method}
-use Rattle.hf_base.specs.Counts.{ends, leaves_of, leaves_in, size_of, size_in, extent_size}
-use Rattle.hf_base.specs.LocationFaults.{loc_cycle_fault, is_endless, limited}
+use Rattle.hf_base.specs.Counts.{leaves_of, leaves_in, size_of, size_in, extent_size}
+use Rattle.hf_base.specs.LocationFaults.{loc_cycle_fault, limited}
 use Rattle.hf_base.proofs.LevelLaws.{leaves_are, size_is}
-use Rattle.hf_base.proofs.FaultLaws.{none_has}
 use Rattle.hf_base.proofs.BytesLaws.{not_endless}
 use Rattle.hf_extent.specs.Places.{AreAt, place_of, links_from}
 use Rattle.hf_order.specs.Order.{IsOrder}

@@ -1,5 +1,5 @@
 -- What is told of an item by what is known of the others at their places.
-use Rattle.std.specs.Prelude.{ℕ, ◌-◌, ◌^◌, List, length, map, min, sum, ◌==◌, slice_index, slice_get, Option, Some, None, Result, if◌then◌else◌}
+use Rattle.std.specs.Prelude.{ℕ, ◌-◌, ◌^◌, List, map, min, sum, ◌==◌, slice_index, slice_get, Option, Some, None, Result, if◌then◌else◌}
 use Rattle.std.specs.Option.{option_and_then}
 use Rattle.hf_base.specs.declared.loc.Extent.{Extent}
 use Rattle.hf_base.specs.Located.{Located}

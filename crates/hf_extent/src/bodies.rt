@@ -13,9 +13,8 @@ ghost use Rattle.hf_extent.specs.Known.{piece_by, bytes_by};
 
 use crate::items::Located;
 use crate::sources::source;
-use hf_base::NoMemory;
+use hf_base::{Extent, NoMemory};
 use hf_pieces::Pieces;
-use hf_base::Extent;
 use std::alloc::Global;
 
 /// What an extent takes of a source that is lent, behind other pieces.

@@ -1,6 +1,6 @@
 //! Items that lie in each other, and the order in which the bytes of the others are found.
 
-ghost use Rattle.std.specs.Prelude.{◌≡◌, ◌<◌, IfOk, length, Ok};
+ghost use Rattle.std.specs.Prelude.{◌≡◌, ◌<◌, IfOk, length, nat_lt, slice_index, Ok};
 ghost use Rattle.hf_base.specs.LocationFaults.{bad_index_fault, loc_cycle_fault};
 ghost use Rattle.hf_base.specs.Members.{Rises};
 ghost use Rattle.hf_base.specs.Reading.{Reads};
@@ -25,6 +25,14 @@ pub fn order(alloc: Global, ids: &[u32], items: &[Located<'_>]) -> Result<Order,
     order_of(alloc, ids.len(), &pairs)
 }
 
+/// Whether the node is not in the order.
+fn is_left_out(order: &Order, node: usize) -> bool
+    requires { node < length order.now.left.items }
+    ensures { result ≡ nat_lt 0 (slice_index order.now.left.items node) }
+{
+    order.left[node] > 0
+}
+
 /// Refuses the first item whose unfolding into sources does not end: it is not in the order.
 #[tactic(auto, unfolding(hf_base::specs::LocationFaults::loc_cycle_fault))]
 pub fn loc_cycle(ids: &[u32], items: &[Located<'_>], order: &Order) -> Result<(), ReadRefusal>
@@ -35,7 +43,7 @@ pub fn loc_cycle(ids: &[u32], items: &[Located<'_>], order: &Order) -> Result<()
     ensures { Reads (λ x. x) result (loc_cycle_fault (items_seen items.now)) }
 {
     for (i, item) in items.iter().enumerate() {
-        if order.left[i] > 0 {
+        if is_left_out(order, i) {
             return Err(ReadRefusal::LocCycle { id: item.id });
         }
     }

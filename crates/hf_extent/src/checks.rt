@@ -9,8 +9,7 @@ ghost use Rattle.hf_base.specs.LocationFaults.{external_fault, bad_method_fault,
 ghost use Rattle.hf_extent.specs.Seen.{item_seen, items_seen};
 
 use crate::items::Located;
-use hf_base::ReadRefusal;
-use hf_base::Extent;
+use hf_base::{Extent, ReadRefusal};
 
 /// Refuses the first item whose bytes lie in another file.
 #[tactic(auto, unfolding(hf_base::specs::LocationFaults::external_fault))]
@@ -56,7 +55,10 @@ pub fn passes(len: u128, item: &Located<'_>, e: &Extent) -> bool
 fn is_whole(item: &Located<'_>, e: &Extent) -> bool
     ensures { result ≡ is_whole_of (item_seen item.now) e.now }
 {
-    (item.method == 1 || item.method == 2) && item.extents.len() == 1 && item.base == 0 && e.offset == 0
+    (item.method == 1 || item.method == 2)
+        && item.extents.len() == 1
+        && item.base == 0
+        && e.offset == 0
 }
 
 /// Whether an extent has length 0 and does not take the whole source.
@@ -72,7 +74,9 @@ fn has_zero_length(item: &Located<'_>) -> bool
 fn any_passes(len: u64, item: &Located<'_>) -> bool
     ensures { result ≡ list_any (passes_of len (item_seen item.now)) (item_seen item.now).extents }
 {
-    item.extents.iter().any(|e| passes(u128::from(len), item, e))
+    item.extents
+        .iter()
+        .any(|e| passes(u128::from(len), item, e))
 }
 
 /// Whether an extent of method 0 passes the end of a file of so many bytes.

@@ -9,9 +9,8 @@ ghost use Rattle.hf_base.specs.Members.{Rises};
 ghost use Rattle.hf_extent.specs.Places.{AreAt, HaveDistinctIds};
 
 use crate::sources::place;
-use hf_base::NoMemory;
 use hf_base::kinds::ILOC;
-use hf_base::{Extent, Ids, Loc, RefBox};
+use hf_base::{Extent, Ids, Loc, NoMemory, RefBox};
 use std::alloc::Global;
 
 /// An item, with the fields of its entry. Without an entry it is as one whose entry has no extent.

@@ -17,9 +17,8 @@ use crate::checks;
 use crate::items::{Located, items};
 use crate::sources::bad_index;
 use crate::totals::{check_leaves, check_sizes};
-use hf_base::OpenFault;
+use hf_base::{Loc, OpenFault, RefBox};
 use hf_pieces::Pieces;
-use hf_base::{Loc, RefBox};
 use std::alloc::Global;
 
 /// The bytes of each of these items, or the first fault of their places.

@@ -10,8 +10,7 @@ ghost use Rattle.hf_base.specs.Members.{Rises};
 ghost use Rattle.hf_extent.specs.Places.{AreAt, id_place, place_of, has_bad_place, item_links, links_from};
 
 use crate::items::Located;
-use hf_base::{NoMemory, ReadRefusal};
-use hf_base::Extent;
+use hf_base::{Extent, NoMemory, ReadRefusal};
 use std::alloc::Global;
 
 /// The place of an id among ids that rise.
@@ -100,7 +99,11 @@ fn add_links(
 }
 
 /// Each item's place with those of the items that it takes bytes from.
-pub fn links(alloc: Global, ids: &[u32], items: &[Located<'_>]) -> Result<Vec<(usize, usize)>, NoMemory>
+pub fn links(
+    alloc: Global,
+    ids: &[u32],
+    items: &[Located<'_>],
+) -> Result<Vec<(usize, usize)>, NoMemory>
     requires { Rises ◌<◌ ids.now }
     ensures { IfOk result (λ pairs. pairs.items ≡ links_from ids.now 0 (items_seen items.now)) }
 {

@@ -19,8 +19,7 @@ use crate::checks::{end_of, inner_size};
 use crate::items::Located;
 use crate::sources::source;
 use hf_base::limits::{BODY, PIECES};
-use hf_base::{NoMemory, OpenFault, ReadRefusal};
-use hf_base::Extent;
+use hf_base::{Extent, NoMemory, OpenFault, ReadRefusal};
 use std::alloc::Global;
 
 /// How many leaves an extent has.
@@ -88,7 +87,14 @@ pub fn too_scattered(counts: &[u64]) -> Result<(), ReadRefusal>
 }
 
 /// How many bytes the source of an extent has.
-fn source_size(len: u64, inner: u64, ids: &[u32], item: &Located<'_>, e: &Extent, sizes: &[u128]) -> u128
+fn source_size(
+    len: u64,
+    inner: u64,
+    ids: &[u32],
+    item: &Located<'_>,
+    e: &Extent,
+    sizes: &[u128],
+) -> u128
     requires rising { Rises ◌<◌ ids.now }
     requires known { length sizes.now ≡ length ids.now }
     ensures { result ≡ source_by len inner ids.now sizes.now (item_seen item.now) e.now }

@@ -1,4 +1,4 @@
-use Rattle.std.proofs.Common.{arith, ap, sym, ◌∙◌, ◌≡◌, true, false}
+use Rattle.std.proofs.Common.{arith, ap, ◌≡◌, true, false}
 use Rattle.std.proofs.lemmas.Bool.Decides.{nat_tests}
 use Rattle.hf_base.specs.declared.fault.ReadRefusal.TheVariants.{BadMethod}
 use Rattle.hf_base.specs.LocationFaults.{bad_method_fault, has_bad_method, refused}

@@ -1,5 +1,4 @@
-use Rattle.std.proofs.Common.{arith, ap, ◌≡◌, true, false, ℕ, Option}
-use Rattle.std.specs.Prelude.{not, ◌==◌}
+use Rattle.std.proofs.Common.{arith, ap, ◌≡◌, true, false}
 use Rattle.std.proofs.lemmas.Bool.Decides.{nat_tests}
 use Rattle.hf_base.specs.declared.fault.ReadRefusal.TheVariants.{External}
 use Rattle.hf_base.specs.LocationFaults.{external_fault, is_external, refused}

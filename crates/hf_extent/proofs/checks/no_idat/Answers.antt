@@ -1,5 +1,4 @@
 use Rattle.std.proofs.Common.{arith, ap, sym, ◌∙◌, ◌≡◌, true, false}
-use Rattle.std.proofs.lemmas.Bool.Decides.{nat_tests}
 use Rattle.std.specs.Option.{option_copied}
 use Rattle.hf_base.specs.declared.fault.ReadRefusal.TheVariants.{NoIdat}
 use Rattle.hf_base.specs.LocationFaults.{no_idat_fault, lacks_idat, refused}

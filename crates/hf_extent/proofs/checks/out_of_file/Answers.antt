@@ -1,5 +1,4 @@
 use Rattle.std.proofs.Common.{arith, ap, sym, ◌∙◌, ◌≡◌, true, false}
-use Rattle.std.proofs.lemmas.Bool.Decides.{nat_tests}
 use Rattle.std.specs.Prelude.{length}
 use Rattle.hf_base.specs.declared.fault.ReadRefusal.TheVariants.{OutOfFile}
 use Rattle.hf_base.specs.LocationFaults.{out_of_file_fault, is_out_of_file, refused}

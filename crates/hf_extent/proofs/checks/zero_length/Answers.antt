@@ -1,5 +1,4 @@
 use Rattle.std.proofs.Common.{arith, ap, sym, ◌∙◌, ◌≡◌, true, false}
-use Rattle.std.proofs.lemmas.Bool.Decides.{nat_tests}
 use Rattle.hf_base.specs.declared.fault.ReadRefusal.TheVariants.{ZeroLength}
 use Rattle.hf_base.specs.LocationFaults.{zero_length_fault, has_zero_length, refused}
 use Rattle.hf_extent.specs.Seen.{item_seen}

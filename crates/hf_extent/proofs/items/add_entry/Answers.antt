@@ -1,4 +1,4 @@
-use Rattle.std.proofs.Common.{arith, ap, ◌<◌, ℕ, length, get_or}
+use Rattle.std.proofs.Common.{arith, ap, ◌<◌, length, get_or}
 use Rattle.std.proofs.lemmas.List.{length-map}
 use Rattle.hf_extent.specs.Seen.{item_seen, items_seen}
 use Rattle.hf_extent.specs.declared.items.Located.{Located}

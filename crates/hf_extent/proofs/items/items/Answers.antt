@@ -1,8 +1,7 @@
-use Rattle.std.proofs.Common.{arith, length, ap, sym, ◌∙◌, ◌≡◌, [], List, take, None}
+use Rattle.std.proofs.Common.{arith, length, ap, ◌∙◌, ◌≡◌, [], take, None}
 use Rattle.hf_base.specs.Located.{located_items, loc_of}
 use Rattle.std.proofs.lemmas.List.{with_items_is}
 use Rattle.hf_extent.specs.Seen.{items_seen}
-use Rattle.hf_extent.specs.declared.items.Located.{Located}
 use Rattle.hf_extent.proofs.ItemLaws.{are_at, none_before, loc_taken}
 use Rattle.hf_extent.proofs.items.items.Goals as goal
 

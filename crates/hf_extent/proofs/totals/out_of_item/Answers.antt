@@ -1,4 +1,4 @@
-use Rattle.std.proofs.Common.{arith, ap, sym, ◌∙◌, ◌≡◌, true, false, ℕ, length, Result}
+use Rattle.std.proofs.Common.{arith, ap, sym, ◌∙◌, ◌≡◌, true, false, ℕ}
 use Rattle.hf_base.specs.declared.fault.ReadRefusal.TheVariants.{OutOfItem}
 use Rattle.hf_base.specs.Counts.{inner_size}
 use Rattle.hf_base.specs.LocationFaults.{out_of_item_fault, is_out_of_item, refused, first_with}

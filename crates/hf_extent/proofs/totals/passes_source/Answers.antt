@@ -1,4 +1,4 @@
-use Rattle.std.proofs.Common.{arith, ap, sym, ◌∙◌, ◌≡◌, ◌-◌, ◌^◌, ◌≤◌, ℕ, Option}
+use Rattle.std.proofs.Common.{arith, ap, sym, ◌∙◌, ◌-◌, ◌^◌, ◌≤◌, ℕ, Option}
 use Rattle.std.specs.Prelude.{nat_lt}
 use Rattle.hf_base.specs.Located.{Located, source_of}
 use Rattle.hf_base.specs.Levels.{told}

@@ -1,11 +1,11 @@
-use Rattle.std.proofs.Common.{arith, ap, sym, ◌∙◌, ◌≡◌, ◌-◌, ◌^◌, ◌<◌, ℕ, List, Some, min, length, get_or}
+use Rattle.std.proofs.Common.{arith, ap, ◌∙◌, ◌≡◌, ◌-◌, ◌^◌, ◌<◌, ℕ, List, Some, min, length, get_or}
 use Rattle.std.specs.Prelude.{slice_get}
 use Rattle.std.proofs.Math.ListN.{length-set}
 use Rattle.std.proofs.lemmas.List.{length-map}
 use Rattle.hf_base.specs.Located.{Located}
-use Rattle.hf_base.specs.Counts.{leaves_of, size_of}
+use Rattle.hf_base.specs.Counts.{size_of}
 use Rattle.hf_extent.specs.Seen.{item_seen, items_seen}
-use Rattle.hf_extent.specs.Known.{leaves_by, size_by}
+use Rattle.hf_extent.specs.Known.{size_by}
 use Rattle.hf_extent.proofs.PlaceLaws.{length_at}
 use Rattle.hf_extent.proofs.OrderLaws.{AreNamed}
 use Rattle.hf_extent.proofs.SeenLaws.{seen_at}

@@ -1,6 +1,6 @@
 use Rattle.std.proofs.Common.{◌≡◌, ◌-◌, ◌^◌, min, take, length}
 use Rattle.hf_base.specs.Located.{Located}
-use Rattle.hf_base.specs.Counts.{leaves_of, size_of}
+use Rattle.hf_base.specs.Counts.{size_of}
 use Rattle.hf_extent.specs.Seen.{items_seen}
 use Rattle.hf_extent.proofs.TotalLaws.{Knows}
 use Rattle.hf_extent.proofs.totals.sizes.Given as goal

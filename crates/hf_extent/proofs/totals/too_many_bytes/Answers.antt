@@ -1,4 +1,4 @@
-use Rattle.std.proofs.Common.{arith, ◌≡◌, ◌-◌, ◌^◌, ◌<◌, ◌≤◌, min, sum, map, ℕ, length}
+use Rattle.std.proofs.Common.{arith, ◌≡◌, ◌-◌, ◌^◌, ◌<◌, ◌≤◌, min, sum, map, length}
 use Rattle.hf_base.specs.declared.fault.ReadRefusal.TheVariants.{TooManyBytes}
 use Rattle.hf_base.specs.declared.limits.TheConstants.{BODY}
 use Rattle.hf_base.specs.Counts.{size_of, inner_size}

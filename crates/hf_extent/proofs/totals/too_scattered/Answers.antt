@@ -1,4 +1,4 @@
-use Rattle.std.proofs.Common.{arith, ◌≡◌, ◌-◌, ◌^◌, min, sum, map, ℕ}
+use Rattle.std.proofs.Common.{arith, ◌-◌, ◌^◌, sum, map}
 use Rattle.hf_base.specs.declared.fault.ReadRefusal.TheVariants.{TooScattered}
 use Rattle.hf_base.specs.declared.limits.TheConstants.{PIECES}
 use Rattle.hf_base.specs.Counts.{leaves_of}
