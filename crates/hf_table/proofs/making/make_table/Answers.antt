@@ -1,5 +1,5 @@
-use Rattle.std.proofs.Common.{◌≡◌, ◌+◌, ◌++◌, ◌∙◌, length, map, take, get_or, sym, ap, subst, arith}
-use Rattle.std.specs.Prelude.{fold, slice_get, Some}
+use Rattle.std.proofs.Common.{◌≡◌, ◌++◌, ◌∙◌, length, map, take, sym, ap, subst, arith}
+use Rattle.std.specs.Prelude.{slice_get, Some}
 use Rattle.std.specs.List.{AllZip}
 use Rattle.std.proofs.lemmas.List.{length-map}
 use Rattle.std.proofs.lemmas.Grind.{common_steps}
