@@ -1,6 +1,6 @@
 //! Calls that take memory, each once with ample memory.
 
-ghost use Rattle.std.specs.Prelude.{◌≡◌, [], ◌∷◌, IfOk};
+ghost use Rattle.std.specs.Prelude.{◌≡◌, [], ◌∷◌, map, IfOk};
 ghost use Rattle.hf_table.specs.Held.{props_in};
 
 use super::*;
@@ -27,6 +27,25 @@ impl<'a> Holder<'a> for Item<'a> {
 
     fn props(&self) -> &[Held<'a>] {
         self.props.as_slice()
+    }
+}
+
+/// Items.
+#[derive(Drop)]
+struct Items<'a> {
+    items: Vec<Item<'a>>,
+}
+
+impl<'a> PropLists<'a> for Items<'a> {
+    ghost lists = { λ s. map (λ i. props_in i.props) s.items.items };
+
+    fn count(&self) -> usize {
+        self.items.len()
+    }
+
+    #[tactic(auto, using(crate::proofs::Passes::mapped-at))]
+    fn props_at(&self, i: usize) -> &[Held<'a>] {
+        self.items[i].props.as_slice()
     }
 }
 
@@ -94,7 +113,7 @@ fn a_table_is_made(rt: HostRuntime) -> Result<(), Fail> {
     let mut items = Vec::new(rt.alloc());
     items.push(item_of(rt.alloc(), 2, turn(1), mirror(1))?)?;
     items.push(item_of(rt.alloc(), 5, mirror(1), turn(2))?)?;
-    let table = make_table(rt.alloc(), &items)?;
+    let table = make_table(rt.alloc(), &Items { items })?;
     assert_eq!(rt; table.kinds(), 3);
     assert_eq!(rt; table.first(2), (1, 1));
     assert_eq!(rt; table.numbers.as_slice(), [1u16, 2, 2, 3].as_slice());
