@@ -12,5 +12,6 @@ pub mod Steps
 pub mod Stores
 pub mod Tables
 pub mod Tally
+pub mod TestRooms
 pub mod Unique
 pub mod Writes

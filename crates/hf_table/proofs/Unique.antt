@@ -1,6 +1,5 @@
 -- Tables of the same lists say the same.
-use Rattle.std.proofs.Common.{◌≡◌, ℕ, zero, suc, ◌+◌, ◌<◌, ◌≤◌, List, [], ◌∷◌, ◌++◌, length, take, refl, sym, ap, ◌∙◌, arith, inl, inr, length-append}
-use Rattle.std.specs.Prelude.{slice_get, slice_index, Some}
+use Rattle.std.proofs.Common.{◌≡◌, ℕ, zero, suc, ◌+◌, ◌<◌, ◌≤◌, List, [], ◌∷◌, length, take, refl, sym, ap, ◌∙◌, arith, inl, inr, length-append}
 use Rattle.std.specs.List.{AllZip}
 use Rattle.std.proofs.lemmas.Bool.{cases_lt}
 use Rattle.std.proofs.lemmas.Grind.{same_number_lists}
@@ -9,7 +8,7 @@ use Rattle.std.proofs.lemmas.Option.{slice_get_within}
 use Rattle.hf_prop.specs.declared.prop.Prop.{Prop}
 use Rattle.hf_table.specs.Held.{all_props}
 use Rattle.hf_table.specs.Laws.{TablesAreAlike, PlacesAreThere}
-use Rattle.hf_table.specs.Numbered.{place_of, Stands, IsFirst, IsTableOf}
+use Rattle.hf_table.specs.Numbered.{place_of, Stands, IsFirst}
 use Rattle.hf_table.specs.Table.{number_of, table}
 use Rattle.hf_table.proofs.Cuts.{all-more}
 use Rattle.hf_table.proofs.Places.{list-there, place-there}

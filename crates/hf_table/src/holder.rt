@@ -1,6 +1,6 @@
 //! What holds properties.
 
-ghost use Rattle.std.specs.Prelude.{◌≡◌, ℕ, List};
+ghost use Rattle.std.specs.Prelude.{◌≡◌, ◌<◌, ℕ, List, length, slice_get, Some};
 ghost use Rattle.hf_prop.specs.declared.prop.Prop.{Prop as StatedProp};
 ghost use Rattle.hf_table.specs.Held.{props_in};
 
@@ -21,4 +21,19 @@ pub trait Holder<'a> {
     /// The properties, in order.
     fn props(&self) -> &[Held<'a>]
         ensures { props_in result.now ≡ props_of self.now };
+}
+
+/// What has some lists of properties, as a store has one for each item.
+pub trait PropLists<'a> {
+    /// The lists, in order.
+    ghost lists: { Self → List (List StatedProp) };
+
+    /// How many lists there are.
+    fn count(&self) -> usize
+        ensures { result ≡ length (lists self.now) };
+
+    /// The properties of a list, counted from 0.
+    fn props_at(&self, i: usize) -> &[Held<'a>]
+        requires { i < length (lists self.now) }
+        ensures { slice_get (lists self.now) i ≡ Some (props_in result.now) };
 }

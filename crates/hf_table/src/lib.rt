@@ -10,7 +10,7 @@ mod uses;
 pub mod worked;
 
 pub use changes::is_listed;
-pub use holder::Holder;
+pub use holder::{Holder, PropLists};
 pub use making::make_table;
 pub use table::Table;
 pub use uses::Uses;

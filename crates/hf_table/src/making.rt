@@ -1,6 +1,6 @@
 //! The table is made, in one pass over the properties of all items.
 
-ghost use Rattle.std.specs.Prelude.{◌≡◌, ◌≤◌, ◌<◌, ◌++◌, ◌+◌, [], ◌∷◌, List, length, map, fold, slice_get, Some, IfOk, OnOk};
+ghost use Rattle.std.specs.Prelude.{◌≡◌, ◌≤◌, ◌<◌, ◌++◌, ◌+◌, [], ◌∷◌, List, length, fold, slice_get, Some, IfOk, OnOk};
 ghost use Rattle.hf_base.specs.declared.limits.TheConstants.{KINDS};
 ghost use Rattle.hf_prop.specs.declared.prop.Prop.{Prop as StatedProp};
 ghost use Rattle.hf_table.specs.Held.{props_in, all_props};
@@ -8,7 +8,7 @@ ghost use Rattle.hf_table.specs.Making.{IsMade};
 ghost use Rattle.hf_table.specs.Numbered.{IsTableOf, Stands, place_of};
 ghost use Rattle.hf_table.specs.Table.{table, with_prop};
 
-use crate::Holder;
+use crate::PropLists;
 use crate::table::Table;
 use hf_base::NoMemory;
 use hf_prop::{Held, Prop};
@@ -53,20 +53,20 @@ impl<'a> Making<'a> {
     }
 }
 
-/// The table of these items. `NoMemory` comes where memory was refused.
-pub fn make_table<'a, H: Holder<'a>>(alloc: Global, items: &[H]) -> Result<Table, NoMemory>
-    requires { length (table (all_props (map H.props_of items.now))) ≤ KINDS }
-    ensures { IfOk result (IsTableOf (map H.props_of items.now)) }
+/// The table of these lists. `NoMemory` comes where memory was refused.
+pub fn make_table<'a, S: PropLists<'a>>(alloc: Global, store: &S) -> Result<Table, NoMemory>
+    requires { length (table (all_props (S.lists store.now))) ≤ KINDS }
+    ensures { IfOk result (IsTableOf (S.lists store.now)) }
 {
     let mut making = Making {
         seen: IndexSet::new(alloc),
         firsts: Vec::new(alloc),
         numbers: Vec::new(alloc),
     };
-    let mut starts = Vec::with_capacity(alloc, items.len())?;
-    for i in 0..items.len() {
+    let mut starts = Vec::with_capacity(alloc, store.count())?;
+    for i in 0..store.count() {
         starts.push(making.numbers.len())?;
-        making.note_all(items[i].props(), i)?;
+        making.note_all(store.props_at(i), i)?;
     }
     let Making {
         seen: _seen,

@@ -1,40 +1,33 @@
-use Rattle.std.proofs.Common.{◌≡◌, ◌+◌, ◌++◌, ◌∙◌, length, map, take, get_or, sym, ap, subst, arith}
-use Rattle.std.specs.Prelude.{fold, slice_get, Some}
+use Rattle.std.proofs.Common.{◌≡◌, ◌+◌, ◌++◌, ◌∙◌, length, map, take, sym, ap, subst, arith}
 use Rattle.std.specs.List.{AllZip}
 use Rattle.std.proofs.lemmas.List.{length-map}
 use Rattle.std.proofs.lemmas.Grind.{common_steps}
+use Rattle.std.proofs.Math.Seq.{take-length}
 use Rattle.hf_base.specs.declared.limits.TheConstants.{KINDS}
 use Rattle.hf_table.specs.Held.{props_in, all_props}
 use Rattle.hf_table.specs.Making.{IsMade}
 use Rattle.hf_table.specs.Numbered.{place_of, IsFirst}
 use Rattle.hf_table.specs.Table.{number_of}
 use Rattle.hf_table.proofs.Cuts.{all-more, few-kinds, starts-more}
-use Rattle.hf_table.proofs.Passes.{mapped-at, mapped-all}
 use Rattle.hf_table.proofs.making.make_table.Goals as goal
 
 pub note_all-requires : goal.note_all-requires
 note_all-requires g c =
-    let props_of = g.H.Holder.props_of in
-    let items = c.args.items.now in
-    let at = mapped-at props_of items c.loop-i.i c.index-items-i.result (props_in c.props.result.now) c.loop-i-test.true c.index-items-i.is c.props.ensures in
-    few-kinds (map props_of items) c.loop-i.i (props_in c.props.result.now) at c.loop-i.making.seen.keys KINDS c.loop-i.invariant.made.seen c.requires
+    few-kinds (g.S.PropLists.lists c.args.store.now) c.loop-i.i (props_in c.props_at.result.now) c.props_at.ensures c.loop-i.making.seen.keys KINDS c.loop-i.invariant.made.seen c.requires
 
 pub loop-i-preserved : goal.loop-i-preserved
 loop-i-preserved g c =
-    let props_of = g.H.Holder.props_of in
-    let items = c.args.items.now in
-    let lists = map props_of items in
+    let lists = g.S.PropLists.lists c.args.store.now in
     let i = c.loop-i.i in
-    let props = props_in c.props.result.now in
-    let at : slice_get lists i ≡ Some props = mapped-at props_of items i c.index-items-i.result props c.loop-i-test.true c.index-items-i.is c.props.ensures in
+    let props = props_in c.props_at.result.now in
     let m = c.loop-i.invariant.made in
     let so_far = all_props (take i lists) in
     let here : place_of lists i 0 ≡ length so_far = omega arith in
-    let made : IsMade lists (so_far ++ props) c.note_all.new.self = c.in_ok-note_all.ensures lists so_far m here at in
+    let made : IsMade lists (so_far ++ props) c.note_all.new.self = c.in_ok-note_all.ensures lists so_far m here c.props_at.ensures in
     let counted : length c.loop-i.making.numbers.items ≡ length so_far = ap length m.numbers ∙ length-map so_far (λ p. number_of p c.loop-i.making.seen.keys) in
     let begins : c.len.result ≡ length so_far = grind (arith, common_steps) in
     record {
-      made = subst (λ ps. IsMade lists ps c.note_all.new.self) (sym (all-more lists i props at)) made;
+      made = subst (λ ps. IsMade lists ps c.note_all.new.self) (sym (all-more lists i props c.props_at.ensures)) made;
       count = grind (arith, common_steps);
       starts =
           starts-more c.loop-i.starts.items c.push.new.self.items i c.len.result (λ n. length (all_props (take n lists))) c.in_ok-push.ensures.items c.loop-i.invariant.count
@@ -43,15 +36,14 @@ loop-i-preserved g c =
 
 pub returns : goal.returns
 returns g c =
-    let props_of = g.H.Holder.props_of in
-    let items = c.args.items.now in
-    let lists = map props_of items in
+    let lists = g.S.PropLists.lists c.args.store.now in
     let i = c.loop-i.i in
-    let end : i ≡ length items = omega (arith, c.loop-i-test.false, c.loop-i.auto.i-end) in
-    let made : IsMade lists (all_props lists) c.loop-i.making = subst (λ ls. IsMade lists (all_props ls) c.loop-i.making) (mapped-all props_of items i end) c.loop-i.invariant.made in
+    let end : i ≡ length lists = omega (arith, c.loop-i-test.false, c.loop-i.auto.i-end) in
+    let whole : take i lists ≡ lists = ap (λ n. take n lists) end ∙ take-length lists in
+    let made : IsMade lists (all_props lists) c.loop-i.making = subst (λ ls. IsMade lists (all_props ls) c.loop-i.making) whole c.loop-i.invariant.made in
     record {
       firsts = subst (λ ks. AllZip (IsFirst lists (all_props lists)) c.loop-i.making.firsts.items ks) made.seen made.firsts;
       numbers = made.numbers ∙ ap (λ ks. map (λ p. number_of p ks) (all_props lists)) made.seen;
-      count = c.loop-i.invariant.count ∙ end ∙ sym (length-map items props_of);
-      starts = λ k h. c.loop-i.invariant.starts k (omega (arith, end, length-map items props_of));
+      count = c.loop-i.invariant.count ∙ end;
+      starts = λ k h. c.loop-i.invariant.starts k (omega (arith, end));
     }

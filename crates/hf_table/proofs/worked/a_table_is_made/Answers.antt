@@ -1,7 +1,6 @@
-use Rattle.std.proofs.Common.{◌≡◌, ◌<◌, ◌+◌, ℕ, zero, suc, [], ◌∷◌, length, take, refl, sym, ap, subst, arith}
+use Rattle.std.proofs.Common.{◌≡◌, ◌<◌, ℕ, zero, suc, [], ◌∷◌, length, take, refl, sym, ap, subst, arith}
 use Rattle.std.specs.Prelude.{slice_index}
 use Rattle.std.specs.List.{AllZip}
-use Rattle.hf_prop.specs.declared.prop.Prop.{Prop}
 use Rattle.hf_table.specs.Held.{all_props}
 use Rattle.hf_table.specs.Numbered.{IsFirst}
 use Rattle.hf_table.specs.Table.{table}

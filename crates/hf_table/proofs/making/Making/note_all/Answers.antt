@@ -1,4 +1,4 @@
-use Rattle.std.proofs.Common.{◌≡◌, ◌++◌, ◌∙◌, [], ◌∷◌, take, sym, ap, subst}
+use Rattle.std.proofs.Common.{◌≡◌, ◌++◌, ◌∙◌, take, sym, ap, subst}
 use Rattle.hf_base.specs.declared.limits.TheConstants.{KINDS}
 use Rattle.hf_table.specs.Held.{props_in}
 use Rattle.hf_table.specs.Making.{IsMade}
