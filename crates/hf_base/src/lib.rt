@@ -9,6 +9,7 @@ pub mod kinds;
 pub mod laws;
 pub mod limits;
 mod loc;
+pub mod location_laws;
 mod number;
 mod seen;
 mod series;
