@@ -1,0 +1,4 @@
+//! What a file says of its items: the store that it denotes, or why it is refused.
+#![tactic(auto)]
+
+pub mod laws;
