@@ -1,2 +1,4 @@
 pub mod FirstFaults
+pub mod RisingLaws
 pub mod TopLevelLaws
+pub mod WalkLaws
