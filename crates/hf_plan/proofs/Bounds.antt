@@ -1,5 +1,5 @@
 -- The numbers of a valid store fit the widths that they are written in.
-use Rattle.std.proofs.Common.{◌≡◌, ℕ, suc, ◌+◌, ◌^◌, ◌<◌, ◌≤◌, Bool, true, false, not, ◌&&◌, cond, leb, ltb, List, [], ◌∷◌, ◌++◌, length, length-append, refl, sym, ap, arith, inl, inr, subst}
+use Rattle.std.proofs.Common.{◌≡◌, ℕ, suc, ◌+◌, ◌^◌, ◌<◌, ◌≤◌, Bool, true, false, not, ◌&&◌, cond, leb, ltb, List, [], ◌∷◌, length, length-append, refl, sym, ap, arith, inl, inr, subst}
 use Rattle.std.specs.Prelude.{◌==◌}
 use Rattle.std.specs.List.{AllByRecursion, list_any, flat_map, filter}
 use Rattle.std.proofs.lemmas.Bool.{cases_lt, cases_Bool, or_parts, and_parts, and_from, leb-false, lt-ltb, le-ltb, eq-eqb}
@@ -14,7 +14,8 @@ use Rattle.hf_box.specs.Literals.{four}
 use Rattle.hf_box.specs.Written.{id_width}
 use Rattle.hf_head.specs.Ftyp.{ftyp_body}
 use Rattle.hf_store.specs.Table.{same_prop, table_of, number_of}
-use Rattle.hf_store.specs.Layout.{Homes, own, is_wide, box_if_any, group_body, group_box, has_bytes, with_bytes, in_idat, is_data_item, bytes_in, mdat_body, idat_body, mdat_offset, idat_offset, meta_front, laid}
+use Rattle.hf_links.specs.Grpl.{group_body, group_box, grpl_body}
+use Rattle.hf_store.specs.Layout.{Homes, own, is_wide, box_if_any, has_bytes, with_bytes, in_idat, is_data_item, bytes_in, mdat_body, idat_body, mdat_offset, idat_offset, meta_front, laid}
 use Rattle.hf_store.specs.Valid.{body_sum, IsGoodRef, IsGoodItem, IsGoodGroup, Valid}
 use Rattle.hf_store.proofs.BoxLengths.{le-box, le-box_len, box_len-le}
 use Rattle.hf_store.proofs.FieldLengths.{length-ftyp_body, length-nums}
@@ -106,7 +107,8 @@ le-group_box g =
     let body : length g.entities ≤ length (group_body g) = simp (length-append, length-num, length-nums 4 g.entities) (omega arith) in
     omega (arith, body, le-box g.kind (group_body g))
 
-groups_fit : (all : List Item) (gs : List Group) → AreBelow (256 ^ 4) (ids_of all) → length (flat_map group_box gs) < 256 ^ 4 → AllByRecursion (IsGoodGroup all) gs → AllByRecursion IsWrittenGroup gs
+groups_fit : (all : List Item) (gs : List Group) → AreBelow (256 ^ 4) (ids_of all) → length (grpl_body gs) < 256 ^ 4 → AllByRecursion (IsGoodGroup all) gs → AllByRecursion IsWrittenGroup gs
+unfolding grpl_body
 groups_fit all [] below few good = tt
 groups_fit all (g ∷ gs) below few good =
     let sum = length-append (group_box g) (flat_map group_box gs) in (
@@ -193,20 +195,20 @@ extents_fit home w end is fits inner each =
 
 -- ---- the whole
 
-le-box_if_any : (kind : FourCc) (fields body : List ℕ) → length body ≤ length (box_if_any kind fields body)
+le-box_if_any : {A : Type 0} (kind : FourCc) (body : List A → List ℕ) (xs : List A) → body [] ≡ [] → length (body xs) ≤ length (box_if_any kind body xs)
 unfolding box_if_any
-le-box_if_any kind fields [] = omega arith
-le-box_if_any kind fields (b ∷ bs) = omega (arith, le-box kind (fields ++ b ∷ bs), length-append fields (b ∷ bs))
+le-box_if_any kind body [] none = rw none (omega arith)
+le-box_if_any kind body (x ∷ xs) none = le-box kind (body (x ∷ xs))
 
 idat-le-front : (s : ItemStore) → length (idat_body s.items) ≤ length (meta_front s)
 unfolding meta_front
-idat-le-front s = simp length-append (omega (arith, le-box_if_any (four "idat") [] (idat_body s.items)))
+idat-le-front s = simp length-append (omega (arith, le-box_if_any (four "idat") bytes_in (filter in_idat s.items) (unfold bytes_in in refl)))
 
-groups-le-front : (s : ItemStore) → length (flat_map group_box s.groups) ≤ length (meta_front s)
+groups-le-front : (s : ItemStore) → length (grpl_body s.groups) ≤ length (meta_front s)
 unfolding meta_front
-groups-le-front s = simp length-append (omega (arith, le-box_if_any (four "grpl") [] (flat_map group_box s.groups)))
+groups-le-front s = simp length-append (omega (arith, le-box_if_any (four "grpl") grpl_body s.groups (unfold grpl_body in refl)))
 
-groups-few : (s : ItemStore) → Valid s → length (flat_map group_box s.groups) < 256 ^ 4
+groups-few : (s : ItemStore) → Valid s → length (grpl_body s.groups) < 256 ^ 4
 unfolding meta_body_len
 groups-few s valid = omega (arith, groups-le-front s, valid.meta, meta_len-is s, le-box_len (meta_body_len 8 s))
 

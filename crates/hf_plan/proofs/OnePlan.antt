@@ -3,7 +3,8 @@ use Rattle.std.proofs.Common.{◌≡◌, ◌∙◌, ℕ, Bool, List, Option, len
 use Rattle.hf_store.specs.Layout.{own, laid}
 use Rattle.hf_plan.specs.declared.sizes.Sizes.{Sizes}
 use Rattle.hf_plan.specs.Laws.{OnePlan}
-use Rattle.hf_plan.specs.Plan.{offset_width, start_of, sizes_of, Planned}
+use Rattle.hf_loc.specs.Iloc.{offset_width}
+use Rattle.hf_plan.specs.Plan.{start_of, sizes_of, Planned}
 
 -- plans with the same parts
 same_parts : (wide wide-2 long long-2 : Bool) (total total-2 : ℕ) (starts starts-2 : List (Option ℕ)) (sizes sizes-2 : Sizes) → wide ≡ wide-2 → long ≡ long-2 → total ≡ total-2 → starts ≡ starts-2 → sizes ≡ sizes-2

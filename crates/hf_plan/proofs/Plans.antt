@@ -8,7 +8,11 @@ use Rattle.hf_box.specs.Written.{id_width}
 use Rattle.hf_head.specs.Ftyp.{ftyp_body}
 use Rattle.hf_store.specs.Store.{ItemStore}
 use Rattle.hf_store.specs.Table.{table_of}
-use Rattle.hf_store.specs.Layout.{own, is_wide, with_bytes, iinf_body, ipco_body, ipma_body, iprp_body, iloc_body, mdat_body, meta_body, laid}
+use Rattle.hf_info.specs.Iinf.{iinf_body}
+use Rattle.hf_loc.specs.Iloc.{offset_width, iloc_body}
+use Rattle.hf_prop.specs.Ipma.{ipma_body}
+use Rattle.hf_prop.specs.Iprp.{is_long_table, ipco_body, iprp_body}
+use Rattle.hf_store.specs.Layout.{own, is_wide, with_bytes, infos_of, assocs_of, iprp_of, entries_of, mdat_body, meta_body, laid}
 use Rattle.hf_store.specs.Valid.{body_sum, Valid}
 use Rattle.hf_store.specs.Plain.{IsPlain}
 use Rattle.hf_store.proofs.BoxLengths.{length-box, box_len-short, le-box_len}
@@ -17,7 +21,7 @@ use Rattle.hf_store.proofs.PlainLengths.{length-iinf_body, length-iprp_body, len
 use Rattle.hf_plan.specs.declared.sizes.Sizes.{Sizes}
 use Rattle.hf_plan.specs.Lay.{Lay}
 use Rattle.hf_plan.specs.Canon.{Canon}
-use Rattle.hf_plan.specs.Plan.{offset_width, sizes_of, Planned, IsPlan}
+use Rattle.hf_plan.specs.Plan.{sizes_of, Planned, IsPlan}
 use Rattle.hf_plan.proofs.Lengths.{file_len, length-laid, length-LayBy}
 use Rattle.hf_plan.proofs.Bounds.{own_homes, lays, file_len-bound}
 use Rattle.hf_store.proofs.FieldLengths.{length-ftyp_body}
@@ -43,11 +47,11 @@ sizes-are long s valid plain =
     let wide = is_wide s.items in
     let w = offset_width long in
     let meta = length-box (four "meta") (meta_body own w 0 s) refl ∙ ap box_len (length-meta_body own w 0 s) in
-    let iinf = length-box (four "iinf") (iinf_body wide s.items) refl ∙ ap box_len (length-iinf_body wide s.items s.items plain.items valid.items) in
-    let iprp = length-box (four "iprp") (iprp_body wide s) refl ∙ ap box_len (length-iprp_body wide s plain.items) ∙ box_len-short 24 (omega arith) in
+    let iinf = length-box (four "iinf") (iinf_body wide (infos_of s.items)) refl ∙ ap box_len (length-iinf_body wide s.items s.items plain.items valid.items) in
+    let iprp = length-box (four "iprp") (iprp_body wide (iprp_of s)) refl ∙ ap box_len (length-iprp_body wide s plain.items) ∙ box_len-short 24 (omega arith) in
     let ipco = length-box (four "ipco") (ipco_body (table_of s)) refl ∙ ap box_len (length-ipco_body s plain.items) ∙ box_len-short 0 (omega arith) in
-    let ipma = length-box (four "ipma") (ipma_body wide (table_of s) s.items) refl ∙ ap box_len (length-ipma_body wide s plain.items) ∙ box_len-short 8 (omega arith) in
-    let iloc = length-box (four "iloc") (iloc_body own wide w 0 s.items) refl ∙ ap box_len (length-iloc_body own wide w 0 s.items) in
+    let ipma = length-box (four "ipma") (ipma_body wide (is_long_table (table_of s)) (assocs_of (table_of s) s.items)) refl ∙ ap box_len (length-ipma_body wide s plain.items) ∙ box_len-short 8 (omega arith) in
+    let iloc = length-box (four "iloc") (iloc_body wide w (entries_of own 0 s.items)) refl ∙ ap box_len (length-iloc_body own wide w 0 s.items) in
     let mdat = length-box (four "mdat") (mdat_body own s.items) refl ∙ ap box_len (length-mdat_body s.items plain.items) in
     rw (meta, iinf, no_iref wide s plain, iprp, ipco, ipma, no_grpl s plain, no_idat_box s plain, iloc, mdat) refl
 

@@ -4,7 +4,8 @@ use Rattle.hf_store.specs.Store.{ItemStore}
 use Rattle.hf_store.specs.Valid.{body_sum, Valid}
 use Rattle.hf_plan.specs.Lay.{Lay}
 use Rattle.hf_plan.specs.Canon.{Canon}
-use Rattle.hf_plan.specs.Plan.{offset_width, Planned, IsPlan}
+use Rattle.hf_loc.specs.Iloc.{offset_width}
+use Rattle.hf_plan.specs.Plan.{Planned, IsPlan}
 
 -- a valid store has a canonical file
 abbrev pub HasCanon : Type 0

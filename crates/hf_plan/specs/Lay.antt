@@ -4,7 +4,8 @@ use Rattle.std.specs.List.{AllByRecursion}
 use Rattle.hf_store.specs.Store.{Prop, Held, RefList, Item, Group, ItemStore}
 use Rattle.hf_box.specs.Written.{id_width}
 use Rattle.hf_store.specs.Table.{table_of, number_of}
-use Rattle.hf_store.specs.Layout.{Homes, own, is_wide, is_long_table, with_bytes, offset_of, laid}
+use Rattle.hf_prop.specs.Iprp.{is_long_table}
+use Rattle.hf_store.specs.Layout.{Homes, own, is_wide, with_bytes, offset_of, laid}
 
 -- ---- each number that is written is below 256 ^ its width
 

@@ -1,18 +1,17 @@
 -- The plan of a canonical file: what is written, counted before any byte is there.
-use Rattle.std.specs.Prelude.{ℕ, ◌≡◌, ◌^◌, Bool, List, [], length, map, Option, Some, None, nat_le, if◌then◌else◌}
-use Rattle.std.specs.List.{flat_map}
-use Rattle.hf_base.specs.Reading.{full as full_box}
+use Rattle.std.specs.Prelude.{ℕ, ◌≡◌, ◌^◌, Bool, List, length, map, filter, Option, Some, None, nat_le, if◌then◌else◌}
 use Rattle.hf_box.specs.Head.{box}
 use Rattle.hf_box.specs.Literals.{four}
-use Rattle.hf_box.specs.Written.{id_version}
+use Rattle.hf_info.specs.Iinf.{iinf_body}
+use Rattle.hf_links.specs.Grpl.{grpl_body}
+use Rattle.hf_links.specs.Iref.{iref_body}
+use Rattle.hf_loc.specs.Iloc.{offset_width, iloc_body}
+use Rattle.hf_prop.specs.Ipma.{ipma_body}
+use Rattle.hf_prop.specs.Iprp.{is_long_table, ipco_body, iprp_body}
 use Rattle.hf_store.specs.Store.{Item, ItemStore}
 use Rattle.hf_store.specs.Table.{table_of}
-use Rattle.hf_store.specs.Layout.{Homes, own, is_wide, has_bytes, offset_of, iinf_body, reference_boxes, ipco_body, ipma_body, iprp_body, group_box, box_if_any, idat_body, iloc_body, mdat_body, meta_body, laid}
+use Rattle.hf_store.specs.Layout.{Homes, own, is_wide, has_bytes, in_idat, offset_of, infos_of, all_boxes, assocs_of, iprp_of, entries_of, box_if_any, bytes_in, mdat_body, meta_body, laid}
 use Rattle.hf_plan.specs.declared.sizes.Sizes.{Sizes}
-
--- bytes of an offset
-abbrev pub offset_width : Bool → ℕ
-offset_width long = if long then 8 else 4
 
 -- the offset that is written for an item in a file of so many bytes; none for one without bytes
 abbrev pub start_of : Homes → ℕ → List Item → Item → Option ℕ
@@ -24,14 +23,14 @@ sizes_of long s =
     let wide = is_wide s.items in
     record {
       meta = length (box (four "meta") (meta_body own (offset_width long) 0 s));
-      iinf = length (box (four "iinf") (iinf_body wide s.items));
-      iref = length (box_if_any (four "iref") (full_box (id_version wide) 0) (reference_boxes wide s.items));
-      iprp = length (box (four "iprp") (iprp_body wide s));
+      iinf = length (box (four "iinf") (iinf_body wide (infos_of s.items)));
+      iref = length (box_if_any (four "iref") (iref_body wide) (all_boxes s.items));
+      iprp = length (box (four "iprp") (iprp_body wide (iprp_of s)));
       ipco = length (box (four "ipco") (ipco_body (table_of s)));
-      ipma = length (box (four "ipma") (ipma_body wide (table_of s) s.items));
-      grpl = length (box_if_any (four "grpl") [] (flat_map group_box s.groups));
-      idat = length (box_if_any (four "idat") [] (idat_body s.items));
-      iloc = length (box (four "iloc") (iloc_body own wide (offset_width long) 0 s.items));
+      ipma = length (box (four "ipma") (ipma_body wide (is_long_table (table_of s)) (assocs_of (table_of s) s.items)));
+      grpl = length (box_if_any (four "grpl") grpl_body s.groups);
+      idat = length (box_if_any (four "idat") bytes_in (filter in_idat s.items));
+      iloc = length (box (four "iloc") (iloc_body wide (offset_width long) (entries_of own 0 s.items)));
       mdat = length (box (four "mdat") (mdat_body own s.items));
     }
 

@@ -4,6 +4,7 @@ use Rattle.hf_store.specs.Store.{ItemStore}
 use Rattle.hf_store.specs.Layout.{is_wide}
 use Rattle.hf_store.specs.BadStores.{only, grouped, alternative}
 use Rattle.hf_store.specs.LargeStores.{picture_of, referring_to}
+use Rattle.hf_store.specs.LimitStores.{holders}
 use Rattle.hf_store.specs.WorkedStores.{plain}
 use Rattle.hf_plan.specs.Lay.{Lay}
 
@@ -38,6 +39,10 @@ ReferencesAreCounted = (ids : List ℕ) → length ids ≡ 256 ^ 2 → HasNoFile
 -- 2^32 entities
 abbrev pub EntitiesAreCounted : Type 0
 EntitiesAreCounted = (ids : List ℕ) → length ids ≡ 256 ^ 4 → HasNoFile (group_of ids)
+
+-- 2^15 distinct properties, the last one with a number of 16 bits
+abbrev pub PropertiesAreNumbered : Type 0
+PropertiesAreNumbered = HasNoFile (holders 128 255 128)
 
 -- 2^32 bytes, where lengths take four
 abbrev pub LengthsFit : Type 0

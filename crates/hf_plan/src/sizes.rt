@@ -5,7 +5,8 @@ ghost use Rattle.hf_box.specs.Head.{box_len};
 ghost use Rattle.hf_box.specs.Written.{id_width};
 ghost use Rattle.hf_base.specs.declared.limits.TheConstants as limits;
 ghost use Rattle.hf_store.specs.Layout.{is_wide, with_bytes};
-ghost use Rattle.hf_plan.specs.Plan.{offset_width, sizes_of};
+ghost use Rattle.hf_loc.specs.Iloc.{offset_width};
+ghost use Rattle.hf_plan.specs.Plan.{sizes_of};
 
 use hf_store::Store;
 

@@ -1,17 +1,22 @@
 -- How long the bodies of the boxes are whose fields have known widths.
-use Rattle.std.proofs.Common.{◌≡◌, ℕ, ◌+◌, ◌*◌, Bool, true, false, List, [], ◌∷◌, ◌++◌, length, length-append, refl, arith}
-use Rattle.std.specs.Prelude.{if◌then◌else◌}
+use Rattle.std.proofs.Common.{◌≡◌, ℕ, ◌+◌, ◌*◌, Bool, true, false, List, [], ◌∷◌, length, length-append, refl, arith}
 use Rattle.std.specs.List.{flat_map, filter}
 use Rattle.hf_base.specs.Number.{num}
 use Rattle.hf_base.specs.NumberLaws.{length-num}
-use Rattle.hf_base.specs.Reading.{full as full_box}
 use Rattle.hf_box.specs.Head.{box_len}
-use Rattle.hf_box.specs.Walk.{is_kind}
-use Rattle.hf_store.specs.Store.{Prop, Held, Item, Group, ItemStore}
 use Rattle.hf_box.specs.Literals.{four}
 use Rattle.hf_head.specs.Ftyp.{Brands, ftyp_body}
-use Rattle.hf_store.specs.Layout.{is_wide, box_if_any, reference_boxes, iprp_body, group_box, idat_body, meta_front, zero_ended_if_any, infe_body, infe_box, iinf_body, reference_body, is_long_table, association, ipma_entry, has_props, ipma_body, group_body}
-use Rattle.hf_box.specs.Written.{bit, id_width, id_version, zero_ended}
+use Rattle.hf_info.specs.Infe.{Info, infe_body, infe_box, content_text, uri_text}
+use Rattle.hf_info.specs.Iinf.{iinf_body}
+use Rattle.hf_links.specs.Grpl.{grpl_body}
+use Rattle.hf_links.specs.Iref.{reference_body, iref_body}
+use Rattle.hf_prop.specs.declared.assoc.Assoc.{Assoc}
+use Rattle.hf_prop.specs.declared.assoc.Pick.{Pick}
+use Rattle.hf_prop.specs.Ipma.{association, ipma_entry, ipma_body}
+use Rattle.hf_prop.specs.Iprp.{iprp_body}
+use Rattle.hf_store.specs.Store.{ItemStore}
+use Rattle.hf_store.specs.Layout.{is_wide, box_if_any, infos_of, all_boxes, iprp_of, in_idat, bytes_in, meta_front}
+use Rattle.hf_box.specs.Written.{bit, id_width}
 use Rattle.hf_head.specs.Hdlr.{hdlr_body}
 use Rattle.hf_head.specs.Pitm.{pitm_body}
 use Rattle.hf_store.proofs.BoxLengths.{length-box}
@@ -28,22 +33,17 @@ pub length-pitm_body : (wide : Bool) (id : ℕ) → length (pitm_body wide id) �
 unfolding pitm_body
 length-pitm_body wide id = simp (length-append, length-num) (omega arith)
 
-pub length-zero_ended : (bytes : List ℕ) → length (zero_ended bytes) ≡ length bytes + 1
-length-zero_ended bytes = simp (length-append, length-num) (omega arith)
+-- the strings of an entry behind its name, with the zero bytes that end them
+unfoldable pub strings_len : Info → ℕ
+strings_len info = length (content_text info) + length (uri_text info)
 
--- the strings of an item behind its name, with the zero bytes that end them
-unfoldable pub strings_len : Item → ℕ
-strings_len i =
-    length (if is_kind i.kind (four "mime") then zero_ended i.content ++ zero_ended_if_any i.encoding else [])
-    + length (if is_kind i.kind (four "uri ") then zero_ended i.uri else [])
-
-pub length-infe_body : (wide : Bool) (i : Item) → length i.kind.0 ≡ 4 → length (infe_body wide i) ≡ 11 + id_width wide + length i.name + strings_len i
+pub length-infe_body : (wide : Bool) (info : Info) → length info.kind.0 ≡ 4 → length (infe_body wide info) ≡ 11 + id_width wide + length info.name + strings_len info
 unfolding infe_body strings_len
-length-infe_body wide i kind = simp (length-append, length-num) (omega (arith, kind))
+length-infe_body wide info kind = simp (length-append, length-num) (omega (arith, kind))
 
-pub length-iinf_body : (wide : Bool) (is : List Item) → length (iinf_body wide is) ≡ 4 + id_width wide + length (flat_map (infe_box wide) is)
+pub length-iinf_body : (wide : Bool) (infos : List Info) → length (iinf_body wide infos) ≡ 4 + id_width wide + length (flat_map (infe_box wide) infos)
 unfolding iinf_body
-length-iinf_body wide is = simp (length-append, length-num) (omega arith)
+length-iinf_body wide infos = simp (length-append, length-num) (omega arith)
 
 -- numbers of one width
 pub length-nums : (w : ℕ) (xs : List ℕ) → length (flat_map (λ x. num x w) xs) ≡ length xs * w
@@ -54,34 +54,31 @@ pub length-reference_body : (wide : Bool) (from : ℕ) (to : List ℕ) → lengt
 unfolding reference_body
 length-reference_body wide from to = simp (length-append, length-num, length-nums) (omega arith)
 
-pub length-association : (two_bytes : Bool) (table : List Prop) (h : Held) → length (association two_bytes table h) ≡ 1 + bit two_bytes
-length-association true table h = length-num 2 _
-length-association false table h = length-num 1 _
+length-association : (two_bytes : Bool) (p : Pick) → length (association two_bytes p) ≡ 1 + bit two_bytes
+length-association true p = length-num 2 _
+length-association false p = length-num 1 _
 
-pub length-associations : (two_bytes : Bool) (table : List Prop) (hs : List Held) → length (flat_map (association two_bytes table) hs) ≡ length hs * (1 + bit two_bytes)
-length-associations two_bytes table [] = omega arith
-length-associations two_bytes table (h ∷ hs) = simp (length-append, length-association) (omega (arith, length-associations two_bytes table hs))
+length-associations : (two_bytes : Bool) (ps : List Pick) → length (flat_map (association two_bytes) ps) ≡ length ps * (1 + bit two_bytes)
+length-associations two_bytes [] = omega arith
+length-associations two_bytes (p ∷ ps) = simp (length-append, length-association) (omega (arith, length-associations two_bytes ps))
 
-pub length-ipma_entry : (wide : Bool) (table : List Prop) (i : Item) → length (ipma_entry wide table i) ≡ id_width wide + 1 + length i.props * (1 + bit (is_long_table table))
-length-ipma_entry wide table i = simp (length-append, length-num, length-associations) (omega arith)
+pub length-ipma_entry : (wide two_bytes : Bool) (a : Assoc) → length (ipma_entry wide two_bytes a) ≡ id_width wide + 1 + length a.picks * (1 + bit two_bytes)
+unfolding ipma_entry
+length-ipma_entry wide two_bytes a = simp (length-append, length-num, length-associations) (omega arith)
 
-pub length-ipma_body : (wide : Bool) (table : List Prop) (is : List Item) → length (ipma_body wide table is) ≡ 8 + length (flat_map (ipma_entry wide table) (filter has_props is))
+pub length-ipma_body : (wide two_bytes : Bool) (assocs : List Assoc) → length (ipma_body wide two_bytes assocs) ≡ 8 + length (flat_map (ipma_entry wide two_bytes) assocs)
 unfolding ipma_body
-length-ipma_body wide table is = simp (length-append, length-num) (omega arith)
-
-pub length-group_body : (g : Group) → length (group_body g) ≡ 12 + length g.entities * 4 + length g.tail
-unfolding group_body
-length-group_body g = simp (length-append, length-num, length-nums) (omega arith)
+length-ipma_body wide two_bytes assocs = simp (length-append, length-num) (omega arith)
 
 -- the parts of `meta` before its `iloc`
 pub length-meta_front : (s : ItemStore)
     → length (meta_front s)
-    ≡ 4 + box_len (length hdlr_body) + box_len (length (pitm_body (is_wide s.items) s.primary)) + box_len (length (iinf_body (is_wide s.items) s.items))
-    + length (box_if_any (four "iref") (full_box (id_version (is_wide s.items)) 0) (reference_boxes (is_wide s.items) s.items))
-    + box_len (length (iprp_body (is_wide s.items) s))
-    + length (box_if_any (four "grpl") [] (flat_map group_box s.groups))
-    + length (box_if_any (four "idat") [] (idat_body s.items))
+    ≡ 4 + box_len (length hdlr_body) + box_len (length (pitm_body (is_wide s.items) s.primary)) + box_len (length (iinf_body (is_wide s.items) (infos_of s.items)))
+    + length (box_if_any (four "iref") (iref_body (is_wide s.items)) (all_boxes s.items))
+    + box_len (length (iprp_body (is_wide s.items) (iprp_of s)))
+    + length (box_if_any (four "grpl") grpl_body s.groups)
+    + length (box_if_any (four "idat") bytes_in (filter in_idat s.items))
 unfolding meta_front
 length-meta_front s =
     let wide = is_wide s.items in
-    simp (length-append, length-num, length-box (four "hdlr") hdlr_body refl, length-box (four "pitm") (pitm_body wide s.primary) refl, length-box (four "iinf") (iinf_body wide s.items) refl, length-box (four "iprp") (iprp_body wide s) refl) (omega arith)
+    simp (length-append, length-num, length-box (four "hdlr") hdlr_body refl, length-box (four "pitm") (pitm_body wide s.primary) refl, length-box (four "iinf") (iinf_body wide (infos_of s.items)) refl, length-box (four "iprp") (iprp_body wide (iprp_of s)) refl) (omega arith)

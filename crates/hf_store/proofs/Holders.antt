@@ -2,17 +2,17 @@
 use Rattle.std.proofs.Common.{◌≡◌, ◌≢◌, ℕ, zero, suc, ◌+◌, ◌*◌, ◌^◌, ◌<◌, ◌≤◌, false, List, [], ◌∷◌, ◌++◌, length, map, refl, sym, ap, ◌∙◌, arith, inl, inr}
 use Rattle.std.specs.Prelude.{fold}
 use Rattle.std.specs.List.{AllByRecursion, range_with_len, flat_map, list_any}
-use Rattle.std.proofs.lemmas.Bool.{cases_Bool}
+use Rattle.std.proofs.lemmas.Bool.{cases_Bool, cases_lt}
 use Rattle.std.proofs.lemmas.List.{append-nil}
 use Rattle.std.proofs.lemmas.Grind.{flat_map-append}
 use Rattle.std.proofs.lemmas.List.FromFn.{length-map-range_with_len}
 use Rattle.hf_box.specs.Literals.{four}
 use Rattle.hf_store.specs.Lists.{IsIn, RisesFrom}
 use Rattle.hf_store.specs.Store.{Prop, Held, Item, ids_of}
-use Rattle.hf_store.specs.Table.{same_prop, props_of, with_prop, table_of}
+use Rattle.hf_store.specs.Table.{same_prop, props_of, with_prop, table_of, number_of}
 use Rattle.hf_store.specs.Valid.{IsFour, IsGoodItem}
 use Rattle.hf_store.specs.LimitStores.{numbered, holder, holders}
-use Rattle.hf_store.proofs.Tables.{same_prop-is}
+use Rattle.hf_store.proofs.Tables.{same_prop-is, same_prop-self}
 
 -- ---- their properties are distinct
 
@@ -44,6 +44,15 @@ not_among x a (suc n) h =
 kinds-append : (a n m k b : ℕ) → k ≡ n + m → b ≡ a + n → map kind (range_with_len a k) ≡ map kind (range_with_len a n) ++ map kind (range_with_len b m)
 kinds-append a zero m k b e f = let k_is : k ≡ m = omega arith in let b_is : b ≡ a = omega arith in rw (k_is, b_is) refl
 kinds-append a (suc n) m k b e f = let k_is : k ≡ suc (n + m) = omega arith in rw k_is (ap (λ (xs : List Prop). kind a ∷ xs) (kinds-append (a + 1) n m (n + m) b refl (omega arith)))
+
+-- each is numbered by its place
+pub number-kind : (x a n : ℕ) → a ≤ x → x < a + n → number_of (kind x) (map kind (range_with_len a n)) + a ≡ x + 1
+number-kind x a zero low high = absurd (omega (arith, low, high))
+number-kind x a (suc n) low high =
+    elim (cases_lt a x) [
+      | inl later ↦ rw (apart x a (λ e. omega (arith, later, e))) (omega (arith, number-kind x (a + 1) n (omega arith) (omega arith)))
+      | inr here ↦ let same : x ≡ a = omega (arith, low, here) in rw same (rw (same_prop-self (kind a)) (omega arith))
+    ]
 
 -- a table takes each of them
 taken : (a n k : ℕ) → k ≡ a + n → fold with_prop (map kind (range_with_len 0 a)) (map kind (range_with_len a n)) ≡ map kind (range_with_len 0 k)

@@ -4,7 +4,7 @@ use Rattle.std.specs.List.{flat_map, range_with_len}
 use Rattle.std.proofs.lemmas.List.FromFn.{length-map-range_with_len}
 use Rattle.hf_store.specs.Table.{props_of, table_of}
 use Rattle.hf_store.specs.Derived.{input_pairs}
-use Rattle.hf_store.specs.Layout.{ipco_body}
+use Rattle.hf_prop.specs.Iprp.{ipco_body}
 use Rattle.hf_store.specs.Valid.{body_sum, meta_len, Valid}
 use Rattle.hf_store.specs.LimitStores.{mif1_second, mif1_third, mif1_major, mif1_alone, greatest_minor, greatest_id, greatest_group, least_bytes, numbered, holders, compatible_with, ItemsAreKept, PropsAreKept, KindsAreKept, BrandsAreKept}
 use Rattle.hf_store.proofs.BoxLengths.{length-box, box_len-le}

@@ -1,11 +1,9 @@
 -- Stores at the limits.
-use Rattle.std.specs.List.{AllByRecursion, flat_map}
+use Rattle.std.specs.List.{AllByRecursion, filter}
 use Rattle.hf_base.specs.Entries.{HasNoZero}
-use Rattle.hf_base.specs.Number.{num}
 use Rattle.hf_base.specs.NumberLaws.{length-num}
 use Rattle.hf_base.specs.declared.four.FourCc.{FourCc}
 use Rattle.hf_store.specs.Lists.{IsIn}
-use Rattle.hf_base.specs.Reading.{full as full_box}
 use Rattle.hf_box.specs.Head.{box_len, box}
 use Rattle.hf_store.specs.Store.{Item}
 use Rattle.hf_box.specs.Literals.{four}
@@ -13,10 +11,15 @@ use Rattle.hf_store.specs.WorkedStores.{plain}
 use Rattle.hf_store.proofs.BoxLengths.{length-box, box_len-le, box_len-short}
 use Rattle.hf_store.proofs.FieldLengths.{strings_len, length-infe_body, length-iinf_body, length-reference_body, length-meta_front}
 use Rattle.hf_store.proofs.Lengths.{meta_body_len, meta_len-is}
-use Rattle.std.proofs.Common.{◌≡◌, ℕ, ◌+◌, ◌<◌, ◌≤◌, ◌*◌, ◌^◌, ap, ◌∙◌, true, false, List, [], ◌∷◌, ◌++◌, length, length-append, refl, sym, arith, inl}
+use Rattle.std.proofs.Common.{◌≡◌, ℕ, ◌+◌, ◌<◌, ◌≤◌, ◌*◌, ◌^◌, ap, ◌∙◌, true, false, List, [], ◌∷◌, length, length-append, refl, sym, arith, inl}
 use Rattle.hf_store.specs.Derived.{input_pairs}
-use Rattle.hf_store.specs.Layout.{has_bytes, is_wide, with_bytes, infe_body, iinf_body, iprp_body, box_if_any, reference_body, reference_boxes, group_box, idat_body}
-use Rattle.hf_box.specs.Written.{id_width, id_version}
+use Rattle.hf_info.specs.Infe.{infe_body}
+use Rattle.hf_info.specs.Iinf.{iinf_body}
+use Rattle.hf_links.specs.Grpl.{grpl_body}
+use Rattle.hf_links.specs.Iref.{reference_body, iref_body}
+use Rattle.hf_prop.specs.Iprp.{iprp_body}
+use Rattle.hf_store.specs.Layout.{has_bytes, is_wide, with_bytes, info_of, infos_of, all_boxes, iprp_of, in_idat, bytes_in, box_if_any}
+use Rattle.hf_box.specs.Written.{id_width}
 use Rattle.hf_head.specs.Hdlr.{hdlr_body}
 use Rattle.hf_head.specs.Pitm.{pitm_body}
 use Rattle.hf_store.specs.Table.{table_of}
@@ -30,24 +33,24 @@ use Rattle.hf_store.proofs.ValidStores.{layout}
 one : List ℕ → Item
 one name = record (plain 1 "hvc1" []) { name = name }
 
-infe_len : (name : List ℕ) (n : ℕ) → length name ≡ n → n < 2 ^ 31 → length (iinf_body false (one name ∷ [])) ≡ 27 + n
+infe_len : (name : List ℕ) (n : ℕ) → length name ≡ n → n < 2 ^ 31 → length (iinf_body false (infos_of (one name ∷ []))) ≡ 27 + n
 unfolding one
 infe_len name n len few =
-    let body : length (infe_body false (one name)) ≡ 13 + n = length-infe_body false (one name) refl ∙ (unfold strings_len in omega (arith, len)) in
-    let boxed : length (box (four "infe") (infe_body false (one name))) ≡ box_len (13 + n) = length-box (four "infe") (infe_body false (one name)) refl ∙ ap box_len body in
-    length-iinf_body false (one name ∷ []) ∙ omega (arith, length-append (box (four "infe") (infe_body false (one name))) [], boxed, box_len-short (13 + n) (omega (arith, few)))
+    let body : length (infe_body false (info_of (one name))) ≡ 13 + n = length-infe_body false (info_of (one name)) refl ∙ (unfold strings_len in omega (arith, len)) in
+    let boxed : length (box (four "infe") (infe_body false (info_of (one name)))) ≡ box_len (13 + n) = length-box (four "infe") (infe_body false (info_of (one name))) refl ∙ ap box_len body in
+    length-iinf_body false (infos_of (one name ∷ [])) ∙ omega (arith, length-append (box (four "infe") (infe_body false (info_of (one name)))) [], boxed, box_len-short (13 + n) (omega (arith, few)))
 
-named_iinf : (name : List ℕ) (n : ℕ) → length name ≡ n → n < 2 ^ 31 → box_len (length (iinf_body (is_wide (named name).items) (named name).items)) ≡ 8 + (27 + n)
+named_iinf : (name : List ℕ) (n : ℕ) → length name ≡ n → n < 2 ^ 31 → box_len (length (iinf_body (is_wide (named name).items) (infos_of (named name).items))) ≡ 8 + (27 + n)
 unfolding named is_wide one
 named_iinf name n len few = ap box_len (infe_len name n len few) ∙ box_len-short (27 + n) (omega (arith, few))
 
 -- the boxes beside it
 named_others : (name : List ℕ)
     → box_len (length hdlr_body) + box_len (length (pitm_body (is_wide (named name).items) (named name).primary))
-    + length (box_if_any (four "iref") (full_box (id_version (is_wide (named name).items)) 0) (reference_boxes (is_wide (named name).items) (named name).items))
-    + box_len (length (iprp_body (is_wide (named name).items) (named name)))
-    + length (box_if_any (four "grpl") [] (flat_map group_box (named name).groups))
-    + length (box_if_any (four "idat") [] (idat_body (named name).items))
+    + length (box_if_any (four "iref") (iref_body (is_wide (named name).items)) (all_boxes (named name).items))
+    + box_len (length (iprp_body (is_wide (named name).items) (iprp_of (named name))))
+    + length (box_if_any (four "grpl") grpl_body (named name).groups)
+    + length (box_if_any (four "idat") bytes_in (filter in_idat (named name).items))
     + box_len (6 + id_width (is_wide (named name).items) + length (with_bytes (named name).items) * (6 + id_width (is_wide (named name).items) + (8 + 8)))
     ≡ 95
 unfolding layout named
@@ -88,33 +91,32 @@ body_is_kept = (λ bytes len. valid_picture bytes len (picture_len bytes (some_h
 
 -- ---- references
 
-if_any-le : (kind : FourCc) (fields body : List ℕ) → length kind.0 ≡ 4 → length (box_if_any kind fields body) ≤ 16 + length fields + length body
+if_any-le : {A : Type 0} (kind : FourCc) (body : List A → List ℕ) (xs : List A) → length kind.0 ≡ 4 → length (box_if_any kind body xs) ≤ 16 + length (body xs)
 unfolding box_if_any
-if_any-le kind fields [] four = omega arith
-if_any-le kind fields (b ∷ bs) four = omega (arith, length-box kind (fields ++ b ∷ bs) four, box_len-le (length (fields ++ b ∷ bs)), length-append fields (b ∷ bs))
+if_any-le kind body [] four = omega arith
+if_any-le kind body (x ∷ xs) four = omega (arith, length-box kind (body (x ∷ xs)) four, box_len-le (length (body (x ∷ xs))))
 
-referring_box : (ids : List ℕ) → length (reference_boxes false (referring_to ids).items) ≤ 20 + length ids * 2
-unfolding referring_to reference_boxes
-referring_box ids =
+referring_body : (ids : List ℕ) → length (iref_body false (all_boxes (referring_to ids).items)) ≤ 24 + length ids * 2
+unfolding referring_to iref_body
+referring_body ids =
     let body = length-reference_body false 1 ids in
-    simp length-append (omega (arith, length-box (four "cdsc") (reference_body false 1 ids) refl, box_len-le (length (reference_body false 1 ids)), body))
+    simp (length-append, length-num) (omega (arith, length-box (four "cdsc") (reference_body false 1 ids) refl, box_len-le (length (reference_body false 1 ids)), body))
 
 -- the boxes beside it
 referring_others : (ids : List ℕ)
-    → box_len (length hdlr_body) + box_len (length (pitm_body (is_wide (referring_to ids).items) (referring_to ids).primary)) + box_len (length (iinf_body (is_wide (referring_to ids).items) (referring_to ids).items))
-    + box_len (length (iprp_body (is_wide (referring_to ids).items) (referring_to ids)))
-    + length (box_if_any (four "grpl") [] (flat_map group_box (referring_to ids).groups))
-    + length (box_if_any (four "idat") [] (idat_body (referring_to ids).items))
+    → box_len (length hdlr_body) + box_len (length (pitm_body (is_wide (referring_to ids).items) (referring_to ids).primary)) + box_len (length (iinf_body (is_wide (referring_to ids).items) (infos_of (referring_to ids).items)))
+    + box_len (length (iprp_body (is_wide (referring_to ids).items) (iprp_of (referring_to ids))))
+    + length (box_if_any (four "grpl") grpl_body (referring_to ids).groups)
+    + length (box_if_any (four "idat") bytes_in (filter in_idat (referring_to ids).items))
     + box_len (6 + id_width (is_wide (referring_to ids).items) + length (with_bytes (referring_to ids).items) * (6 + id_width (is_wide (referring_to ids).items) + (8 + 8)))
     ≡ 130
 unfolding layout referring_to
 referring_others ids = refl
 
-referring_iref : (ids : List ℕ) → length ids ≡ 65535 → length (box_if_any (four "iref") (full_box (id_version (is_wide (referring_to ids).items)) 0) (reference_boxes (is_wide (referring_to ids).items) (referring_to ids).items)) ≤ 131110
+referring_iref : (ids : List ℕ) → length ids ≡ 65535 → length (box_if_any (four "iref") (iref_body (is_wide (referring_to ids).items)) (all_boxes (referring_to ids).items)) ≤ 131110
 unfolding is_wide referring_to
 referring_iref ids len =
-    let boxes = referring_box ids in
-    omega (arith, len, if_any-le (four "iref") (full_box 0 0) (reference_boxes false (referring_to ids).items) refl, boxes, length-num 1 0, length-num 3 0, length-append (num 0 1) (num 0 3))
+    omega (arith, len, if_any-le (four "iref") (iref_body false) (all_boxes (referring_to ids).items) refl, referring_body ids)
 
 referring_len : (ids : List ℕ) → length ids ≡ 65535 → meta_len (referring_to ids) ≤ 200000
 unfolding meta_body_len

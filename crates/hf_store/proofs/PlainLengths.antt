@@ -15,7 +15,13 @@ use Rattle.hf_head.specs.Hdlr.{hdlr_body}
 use Rattle.hf_head.specs.Pitm.{pitm_body}
 use Rattle.hf_store.specs.Store.{Item, ItemStore}
 use Rattle.hf_store.specs.Table.{props_of, table_of}
-use Rattle.hf_store.specs.Layout.{is_wide, infe_body, infe_box, iinf_body, reference_boxes, ipco_body, ipma_body, iprp_body, has_props, in_idat, bytes_in, idat_body, box_if_any, meta_front, group_box}
+use Rattle.hf_info.specs.Infe.{infe_body, infe_box}
+use Rattle.hf_info.specs.Iinf.{iinf_body}
+use Rattle.hf_links.specs.Grpl.{grpl_body}
+use Rattle.hf_links.specs.Iref.{iref_body}
+use Rattle.hf_prop.specs.Ipma.{ipma_body}
+use Rattle.hf_prop.specs.Iprp.{is_long_table, ipco_body, iprp_body}
+use Rattle.hf_store.specs.Layout.{is_wide, info_of, infos_of, all_boxes, has_props, assocs_of, iprp_of, in_idat, bytes_in, idat_body, box_if_any, meta_front}
 use Rattle.hf_store.specs.Valid.{IsFour, IsGoodItem}
 use Rattle.hf_store.specs.Plain.{IsPlainItem, ArePlain, IsPlain}
 use Rattle.hf_store.proofs.BoxLengths.{length-box, box_len-short}
@@ -30,10 +36,9 @@ kind_differs a b differs =
 
 -- ---- what is left out
 
-pub no_references : (wide : Bool) (is : List Item) → ArePlain is → reference_boxes wide is ≡ []
-unfolding reference_boxes
-no_references wide [] plain = refl
-no_references wide (i ∷ is) plain = rw plain.0.refs (no_references wide is plain.1)
+pub no_references : (is : List Item) → ArePlain is → all_boxes is ≡ []
+no_references [] plain = refl
+no_references (i ∷ is) plain = rw plain.0.refs (no_references is plain.1)
 
 pub no_props : (is : List Item) → ArePlain is → filter has_props is ≡ []
 no_props [] plain = refl
@@ -50,7 +55,7 @@ no_table s plain = rw (no_props_of s.items plain) refl
 pub not_in_idat : (i : Item) → IsPlainItem i → in_idat i ≡ false
 not_in_idat i plain = rw (kind_differs i.kind (four "grid") plain.grid, kind_differs i.kind (four "iovl") plain.overlay) refl
 
-none_in_idat : (is : List Item) → ArePlain is → filter in_idat is ≡ []
+pub none_in_idat : (is : List Item) → ArePlain is → filter in_idat is ≡ []
 none_in_idat [] plain = refl
 none_in_idat (i ∷ is) plain = rw (not_in_idat i plain.0) (none_in_idat is plain.1)
 
@@ -58,38 +63,38 @@ pub no_idat : (is : List Item) → ArePlain is → idat_body is ≡ []
 unfolding bytes_in
 no_idat is plain = rw (none_in_idat is plain) refl
 
-no_box : (kind : FourCc) (fields : List ℕ) → length (box_if_any kind fields []) ≡ 0
+no_box : {A : Type 0} (kind : FourCc) (body : List A → List ℕ) → length (box_if_any kind body []) ≡ 0
 unfolding box_if_any
-no_box kind fields = refl
+no_box kind body = refl
 
 -- ---- what is there
 
 -- the body of an entry of `iinf`
-pub infe-plain : (wide : Bool) (i : Item) → IsPlainItem i → IsFour i.kind → length (infe_body wide i) ≡ 11 + id_width wide
+pub infe-plain : (wide : Bool) (i : Item) → IsPlainItem i → IsFour i.kind → length (infe_body wide (info_of i)) ≡ 11 + id_width wide
 unfolding infe_body
 infe-plain wide i plain kind =
     rw (plain.name, kind_differs i.kind (four "mime") plain.mime, kind_differs i.kind (four "uri ") plain.uri) (simp (length-append, length-num) (omega (arith, kind)))
 
-pub infe_box-plain : (wide : Bool) (i : Item) → IsPlainItem i → IsFour i.kind → length (infe_box wide i) ≡ 19 + id_width wide
+pub infe_box-plain : (wide : Bool) (i : Item) → IsPlainItem i → IsFour i.kind → length (infe_box wide (info_of i)) ≡ 19 + id_width wide
 unfolding box_len
 infe_box-plain wide i plain kind =
-    length-box (four "infe") (infe_body wide i) refl ∙ ap box_len (infe-plain wide i plain kind) ∙ (elim wide as (λ w. box_len (11 + id_width w) ≡ 19 + id_width w) [ true ↦ refl | false ↦ refl ])
+    length-box (four "infe") (infe_body wide (info_of i)) refl ∙ ap box_len (infe-plain wide i plain kind) ∙ (elim wide as (λ w. box_len (11 + id_width w) ≡ 19 + id_width w) [ true ↦ refl | false ↦ refl ])
 
-infes-plain : (wide : Bool) (all is : List Item) → ArePlain is → AllByRecursion (IsGoodItem all) is → length (flat_map (infe_box wide) is) ≡ length is * (19 + id_width wide)
+infes-plain : (wide : Bool) (all is : List Item) → ArePlain is → AllByRecursion (IsGoodItem all) is → length (flat_map (infe_box wide) (infos_of is)) ≡ length is * (19 + id_width wide)
 infes-plain wide all [] plain good = omega arith
 infes-plain wide all (i ∷ is) plain good =
     simp length-append (omega (arith, infe_box-plain wide i plain.0 good.0.kind, infes-plain wide all is plain.1 good.1))
 
-pub length-iinf_body : (wide : Bool) (all is : List Item) → ArePlain is → AllByRecursion (IsGoodItem all) is → length (iinf_body wide is) ≡ 4 + id_width wide + length is * (19 + id_width wide)
+pub length-iinf_body : (wide : Bool) (all is : List Item) → ArePlain is → AllByRecursion (IsGoodItem all) is → length (iinf_body wide (infos_of is)) ≡ 4 + id_width wide + length is * (19 + id_width wide)
 unfolding iinf_body
 length-iinf_body wide all is plain good = simp (length-append, length-num) (omega (arith, infes-plain wide all is plain good))
 
 -- `iprp` with an empty `ipco` and an `ipma` without entries
-pub iprp_body-plain : (wide : Bool) (s : ItemStore) → ArePlain s.items → iprp_body wide s ≡ box (four "ipco") [] ++ box (four "ipma") (full_box (id_version wide) 0 ++ num 0 4)
+pub iprp_body-plain : (wide : Bool) (s : ItemStore) → ArePlain s.items → iprp_body wide (iprp_of s) ≡ box (four "ipco") [] ++ box (four "ipma") (full_box (id_version wide) 0 ++ num 0 4)
 unfolding iprp_body ipco_body ipma_body
 iprp_body-plain wide s plain = rw (no_table s plain, no_props s.items plain, append-nil) refl
 
-pub length-iprp_body : (wide : Bool) (s : ItemStore) → ArePlain s.items → length (iprp_body wide s) ≡ 24
+pub length-iprp_body : (wide : Bool) (s : ItemStore) → ArePlain s.items → length (iprp_body wide (iprp_of s)) ≡ 24
 unfolding box_len
 length-iprp_body wide s plain =
     rw (iprp_body-plain wide s plain) (simp (length-append, length-num, length-box (four "ipco") [] refl, length-box (four "ipma") (full_box (id_version wide) 0 ++ num 0 4) refl) refl)
@@ -98,7 +103,7 @@ pub length-ipco_body : (s : ItemStore) → ArePlain s.items → length (ipco_bod
 unfolding ipco_body
 length-ipco_body s plain = rw (no_table s plain) refl
 
-pub length-ipma_body : (wide : Bool) (s : ItemStore) → ArePlain s.items → length (ipma_body wide (table_of s) s.items) ≡ 8
+pub length-ipma_body : (wide : Bool) (s : ItemStore) → ArePlain s.items → length (ipma_body wide (is_long_table (table_of s)) (assocs_of (table_of s) s.items)) ≡ 8
 unfolding ipma_body
 length-ipma_body wide s plain = rw (no_table s plain, no_props s.items plain) (simp (length-append, length-num) (omega arith))
 
@@ -110,14 +115,14 @@ pub length-pitm_body : (wide : Bool) (id : ℕ) → length (pitm_body wide id) �
 unfolding pitm_body
 length-pitm_body wide id = simp (length-append, length-num) (omega arith)
 
-pub no_iref : (wide : Bool) (s : ItemStore) → IsPlain s → length (box_if_any (four "iref") (full_box (id_version wide) 0) (reference_boxes wide s.items)) ≡ 0
-no_iref wide s plain = rw (no_references wide s.items plain.items) (no_box (four "iref") (full_box (id_version wide) 0))
+pub no_iref : (wide : Bool) (s : ItemStore) → IsPlain s → length (box_if_any (four "iref") (iref_body wide) (all_boxes s.items)) ≡ 0
+no_iref wide s plain = rw (no_references s.items plain.items) (no_box (four "iref") (iref_body wide))
 
-pub no_grpl : (s : ItemStore) → IsPlain s → length (box_if_any (four "grpl") [] (flat_map group_box s.groups)) ≡ 0
-no_grpl s plain = rw plain.groups (no_box (four "grpl") [])
+pub no_grpl : (s : ItemStore) → IsPlain s → length (box_if_any (four "grpl") grpl_body s.groups) ≡ 0
+no_grpl s plain = rw plain.groups (no_box (four "grpl") grpl_body)
 
-pub no_idat_box : (s : ItemStore) → IsPlain s → length (box_if_any (four "idat") [] (idat_body s.items)) ≡ 0
-no_idat_box s plain = rw (no_idat s.items plain.items) (no_box (four "idat") [])
+pub no_idat_box : (s : ItemStore) → IsPlain s → length (box_if_any (four "idat") bytes_in (filter in_idat s.items)) ≡ 0
+no_idat_box s plain = rw (none_in_idat s.items plain.items) (no_box (four "idat") bytes_in)
 
 -- what stands in `meta` before its `iloc`, with ids of so many bytes
 unfoldable pub front_len : ℕ → ℕ → ℕ
@@ -129,8 +134,8 @@ length-meta_front s good plain =
     let wide = is_wide s.items in
     let hdlr : length (box (four "hdlr") hdlr_body) ≡ 33 = length-box (four "hdlr") hdlr_body refl ∙ ap box_len length-hdlr_body ∙ box_len-short 25 (omega arith) in
     let pitm : length (box (four "pitm") (pitm_body wide s.primary)) ≡ box_len (4 + id_width wide) = length-box (four "pitm") (pitm_body wide s.primary) refl ∙ ap box_len (length-pitm_body wide s.primary) in
-    let iinf : length (box (four "iinf") (iinf_body wide s.items)) ≡ box_len (4 + id_width wide + length s.items * (19 + id_width wide)) =
-    length-box (four "iinf") (iinf_body wide s.items) refl ∙ ap box_len (length-iinf_body wide s.items s.items plain.items good)
+    let iinf : length (box (four "iinf") (iinf_body wide (infos_of s.items))) ≡ box_len (4 + id_width wide + length s.items * (19 + id_width wide)) =
+    length-box (four "iinf") (iinf_body wide (infos_of s.items)) refl ∙ ap box_len (length-iinf_body wide s.items s.items plain.items good)
     in
-    let iprp : length (box (four "iprp") (iprp_body wide s)) ≡ 32 = length-box (four "iprp") (iprp_body wide s) refl ∙ ap box_len (length-iprp_body wide s plain.items) ∙ box_len-short 24 (omega arith) in
+    let iprp : length (box (four "iprp") (iprp_body wide (iprp_of s))) ≡ 32 = length-box (four "iprp") (iprp_body wide (iprp_of s)) refl ∙ ap box_len (length-iprp_body wide s plain.items) ∙ box_len-short 24 (omega arith) in
     simp (length-append, length-num) (omega (arith, hdlr, pitm, iinf, iprp, no_iref wide s plain, no_grpl s plain, no_idat_box s plain))

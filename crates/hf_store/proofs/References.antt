@@ -17,9 +17,10 @@ use Rattle.hf_box.specs.Walk.{is_kind}
 use Rattle.hf_store.specs.Lists.{IsIn, RisesFrom, Rises}
 use Rattle.hf_store.specs.Store.{RefList, Item, ids_of}
 use Rattle.hf_box.specs.Literals.{four}
-use Rattle.hf_store.specs.Layout.{reference_body, reference_boxes}
+use Rattle.hf_links.specs.Iref.{reference_body, reference_box}
+use Rattle.hf_store.specs.Layout.{item_boxes, all_boxes}
 use Rattle.hf_store.specs.Valid.{IsBelow, IsGoodRef, IsGoodItem}
-use Rattle.hf_store.specs.References.{RefBox, joined, kinds_of, IsKept, item_boxes, all_boxes, is_id, BoxesAreWritten, ReferencesComeBack, ReferencesOnce}
+use Rattle.hf_store.specs.References.{RefBox, joined, kinds_of, IsKept, is_id, BoxesAreWritten, ReferencesComeBack, ReferencesOnce}
 use Rattle.hf_store.proofs.Tables.{is_kind-is}
 
 -- ---- the order of types
@@ -287,21 +288,19 @@ references_once keep boxes from rs qs x y =
 
 -- ---- the boxes
 
-abbrev spell : Bool → RefBox → List ℕ
-spell wide b = box b.kind (reference_body wide b.from b.to)
-
-spelled-append : (wide : Bool) (xs ys : List RefBox) → flat_map (spell wide) (xs ++ ys) ≡ flat_map (spell wide) xs ++ flat_map (spell wide) ys
+spelled-append : (wide : Bool) (xs ys : List RefBox) → flat_map (reference_box wide) (xs ++ ys) ≡ flat_map (reference_box wide) xs ++ flat_map (reference_box wide) ys
 spelled-append wide [] ys = refl
-spelled-append wide (x ∷ xs) ys = ap (λ (l : List ℕ). spell wide x ++ l) (spelled-append wide xs ys) ∙ sym (append_assoc (spell wide x) (flat_map (spell wide) xs) (flat_map (spell wide) ys))
+spelled-append wide (x ∷ xs) ys =
+    ap (λ (l : List ℕ). reference_box wide x ++ l) (spelled-append wide xs ys) ∙ sym (append_assoc (reference_box wide x) (flat_map (reference_box wide) xs) (flat_map (reference_box wide) ys))
 
-item_spelled : (wide : Bool) (from : ℕ) (rs : List RefList) → flat_map (λ (r : RefList). box r.kind (reference_body wide from r.to)) rs ≡ flat_map (spell wide) (item_boxes from rs)
+item_spelled : (wide : Bool) (from : ℕ) (rs : List RefList) → flat_map (λ (r : RefList). box r.kind (reference_body wide from r.to)) rs ≡ flat_map (reference_box wide) (item_boxes from rs)
 item_spelled wide from [] = refl
 item_spelled wide from (r ∷ rs) = ap (λ (l : List ℕ). box r.kind (reference_body wide from r.to) ++ l) (item_spelled wide from rs)
 
 pub boxes_are_written : BoxesAreWritten
-unfolding reference_boxes
 boxes_are_written wide [] = refl
 boxes_are_written wide (i ∷ is) =
-    ap (λ (l : List ℕ). l ++ reference_boxes wide is) (item_spelled wide i.id i.refs)
-    ∙ ap (λ (l : List ℕ). flat_map (spell wide) (item_boxes i.id i.refs) ++ l) (boxes_are_written wide is)
+    let lists : List Item → List ℕ = λ js. flat_map (λ (j : Item). flat_map (λ (r : RefList). box r.kind (reference_body wide j.id r.to)) j.refs) js in
+    ap (λ (l : List ℕ). l ++ lists is) (item_spelled wide i.id i.refs)
+    ∙ ap (λ (l : List ℕ). flat_map (reference_box wide) (item_boxes i.id i.refs) ++ l) (boxes_are_written wide is)
     ∙ sym (spelled-append wide (item_boxes i.id i.refs) (all_boxes is))

@@ -115,4 +115,4 @@ selects_one ps essential (suc n) hs gs rest more x y e =
 
 pub selects_once : SelectsOnce
 selects_once ps [] hs gs x y = x ∙ sym y
-selects_once ps (k ∷ ks) hs gs x y = selects_one ps k.essential k.number hs gs x.0 y.0 x.1 y.1 (selects_once ps ks x.0 y.0 x.2 y.2)
+selects_once ps (k ∷ ks) hs gs x y = selects_one ps k.essential k.index hs gs x.0 y.0 x.1 y.1 (selects_once ps ks x.0 y.0 x.2 y.2)

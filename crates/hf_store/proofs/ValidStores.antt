@@ -9,7 +9,14 @@ use Rattle.std.specs.Prelude.{◌==◌, if◌then◌else◌}
 use Rattle.hf_base.specs.Number.{num}
 use Rattle.hf_box.specs.Head.{box_len, box_head, box}
 use Rattle.hf_store.specs.Table.{table_of}
-use Rattle.hf_store.specs.Layout.{is_wide, box_if_any, infe_body, iinf_body, reference_body, reference_boxes, ipco_body, ipma_body, iprp_body, group_body, bytes_in, iloc_entry, iloc_body, meta_front, meta_body, laid}
+use Rattle.hf_info.specs.Infe.{infe_body}
+use Rattle.hf_info.specs.Iinf.{iinf_body}
+use Rattle.hf_links.specs.Grpl.{group_body, grpl_body}
+use Rattle.hf_links.specs.Iref.{reference_body, iref_body}
+use Rattle.hf_loc.specs.Iloc.{iloc_entry, iloc_body}
+use Rattle.hf_prop.specs.Ipma.{ipma_entry, ipma_body}
+use Rattle.hf_prop.specs.Iprp.{ipco_body, iprp_body}
+use Rattle.hf_store.specs.Layout.{is_wide, box_if_any, bytes_in, meta_front, meta_body, laid}
 use Rattle.hf_store.specs.Derived.{input_pairs}
 use Rattle.hf_store.specs.Valid.{body_sum, meta_len, IsGoodItem, Valid}
 use Rattle.hf_store.specs.WorkedStores.{one_picture, one_empty_item, greatest_narrow_id, least_wide_id, two_widths, turned_picture, sized_picture, properties_127, properties_128, properties_300, identity_item, overlays, two_alternatives, picture_with_exif, picture_with_xmp, picture_with_thumbnail, every_feature, every_feature_wide, photograph, photograph_redacted, photograph_bare, tile, tiles, thumbnail, exif, xmp}
@@ -18,7 +25,7 @@ use Rattle.hf_store.proofs.Finds.{found, all_found}
 
 -- its name on an `unfolding` line opens the layout of meta
 unfoldable pub layout : Unit {0}
-unfolding num box_len box_head box table_of is_wide box_if_any ftyp_body hdlr_body pitm_body infe_body iinf_body reference_body reference_boxes ipco_body ipma_body iprp_body group_body bytes_in iloc_entry iloc_body meta_front meta_body laid body_sum meta_len
+unfolding num box_len box_head box table_of is_wide box_if_any ftyp_body hdlr_body pitm_body infe_body iinf_body reference_body iref_body ipco_body ipma_entry ipma_body iprp_body group_body grpl_body bytes_in iloc_entry iloc_body meta_front meta_body laid body_sum meta_len
 layout = tt
 
 -- a tile is a good item of any store

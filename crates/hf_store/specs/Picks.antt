@@ -3,15 +3,11 @@ use Rattle.std.specs.Prelude.{ℕ, zero, suc, ◌≡◌, Bool, List, [], ◌∷�
 use Rattle.hf_store.specs.Lists.{IsIn}
 use Rattle.hf_store.specs.Store.{Prop, Held, Item, ItemStore}
 use Rattle.hf_store.specs.Table.{table_of, number_of}
-
--- an association: the essential mark, and the number of a property, counted from 1
-pub record Pick : Type 0 where
-  pub essential : Bool
-  pub number : ℕ
+pub use Rattle.hf_prop.specs.declared.assoc.Pick.{Pick}
 
 -- the association that is written for a property
 abbrev pub pick_of : List Prop → Held → Pick
-pick_of table h = record { essential = h.essential; number = number_of h.prop table }
+pick_of table h = record { essential = h.essential; index = number_of h.prop table }
 
 -- the properties that are held by one association, and by the further ones; number 0 is no property
 abbrev pub SelectsOne : List Prop → Bool → ℕ → List Held → List Held → Type 0
@@ -21,7 +17,7 @@ SelectsOne ps essential (suc n) held further = (p : Prop) × (slice_get ps n ≡
 -- the properties that these associations select, in order
 abbrev pub Selects : List Prop → List Pick → List Held → Type 0
 Selects ps [] held = held ≡ []
-Selects ps (k ∷ ks) held = (further : List Held) × SelectsOne ps k.essential k.number held further × Selects ps ks further
+Selects ps (k ∷ ks) held = (further : List Held) × SelectsOne ps k.essential k.index held further × Selects ps ks further
 
 -- the numbers that are written select each item's properties
 abbrev pub NumbersSelect : Type 0

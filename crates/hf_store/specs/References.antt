@@ -4,17 +4,13 @@ use Rattle.std.specs.List.{AllByRecursion, flat_map, list_any}
 use Rattle.hf_base.specs.declared.four.FourCc.{FourCc}
 use Rattle.hf_box.specs.Head.{box}
 use Rattle.hf_box.specs.Walk.{is_kind}
+use Rattle.hf_links.specs.Iref.{reference_body, reference_box}
+pub use Rattle.hf_base.specs.declared.loc.RefBox.{RefBox}
 use Rattle.hf_store.specs.Lists.{IsIn, Rises}
 use Rattle.hf_store.specs.Store.{RefList, Item, ItemStore, ids_of}
 use Rattle.hf_box.specs.Literals.{four}
-use Rattle.hf_store.specs.Layout.{reference_body, reference_boxes}
+use Rattle.hf_store.specs.Layout.{all_boxes}
 use Rattle.hf_store.specs.Valid.{IsBelow, Valid}
-
--- a box of `iref`: its type, the item that it is of, the ids that it leads to
-pub record RefBox : Type 0 where
-  pub kind : FourCc
-  pub from : ℕ
-  pub to : List ℕ
 
 -- the ids in the boxes of this type from this item, of those that pass, in file order
 abbrev pub joined : (ℕ → Bool) → FourCc → ℕ → List RefBox → List ℕ
@@ -38,20 +34,13 @@ pub record KeepsRefs (keep : ℕ → Bool) (boxes : List RefBox) (from : ℕ) (r
   pub each : AllByRecursion (IsKept keep boxes from) refs
   pub all : AllByRecursion (λ (b : RefBox). b.from ≡ from → (b.kind ≡ four "iloc") ⊎ ((joined keep b.kind from boxes ≡ []) ⊎ IsIn b.kind (kinds_of refs))) boxes
 
--- the boxes that are written for an item, and for all items
-abbrev pub item_boxes : ℕ → List RefList → List RefBox
-item_boxes from rs = map (λ (r : RefList). record { kind = r.kind; from = from; to = r.to }) rs
-
-abbrev pub all_boxes : List Item → List RefBox
-all_boxes is = flat_map (λ (i : Item). item_boxes i.id i.refs) is
-
 -- the id is one of an item
 abbrev pub is_id : List Item → ℕ → Bool
 is_id is id = list_any (λ x. x == id) (ids_of is)
 
--- the boxes that are written are these
+-- the boxes that are written: one for each list of each item, in order
 abbrev pub BoxesAreWritten : Type 0
-BoxesAreWritten = (wide : Bool) (is : List Item) → reference_boxes wide is ≡ flat_map (λ (b : RefBox). box b.kind (reference_body wide b.from b.to)) (all_boxes is)
+BoxesAreWritten = (wide : Bool) (is : List Item) → flat_map (λ (i : Item). flat_map (λ (r : RefList). box r.kind (reference_body wide i.id r.to)) i.refs) is ≡ flat_map (reference_box wide) (all_boxes is)
 
 -- they give each item its lists back
 abbrev pub ReferencesComeBack : Type 0

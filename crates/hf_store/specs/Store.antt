@@ -3,16 +3,9 @@
 use Rattle.std.specs.Prelude.{ℕ, Bool, List, map}
 use Rattle.hf_base.specs.declared.four.FourCc.{FourCc}
 use Rattle.hf_head.specs.Ftyp.{Brands}
-
--- a box of `ipco`
-pub record Prop : Type 0 where
-  pub kind : FourCc
-  pub body : List ℕ
-
--- a property as an item holds it, with the essential mark of its association
-pub record Held : Type 0 where
-  pub essential : Bool
-  pub prop : Prop
+pub use Rattle.hf_links.specs.Grpl.{Group}
+pub use Rattle.hf_prop.specs.declared.prop.Prop.{Prop}
+pub use Rattle.hf_prop.specs.Held.{Held}
 
 -- the references of one type that an item has: their type, and the ids of the items that they lead to
 pub record RefList : Type 0 where
@@ -31,15 +24,6 @@ pub record Item : Type 0 where
   pub bytes : List ℕ
   pub props : List Held
   pub refs : List RefList
-
--- an entity group: a box of `grpl`, with the bytes after its entities
-pub record Group : Type 0 where
-  pub kind : FourCc
-  pub version : ℕ
-  pub flags : ℕ
-  pub id : ℕ
-  pub entities : List ℕ
-  pub tail : List ℕ
 
 -- the brands, the id of the primary item, the items by rising id, the groups by rising id
 pub record ItemStore : Type 0 where

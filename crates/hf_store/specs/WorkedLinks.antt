@@ -24,7 +24,7 @@ abbrev pub prop : String → List ℕ → Prop
 prop kind body = record { kind = four kind; body = body }
 
 abbrev pub pick : Bool → ℕ → Pick
-pick essential number = record { essential = essential; number = number }
+pick essential number = record { essential = essential; index = number }
 
 -- three boxes of `ipco`, the first and the last one equal
 abbrev pub three_boxes : List Prop

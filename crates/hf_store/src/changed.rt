@@ -29,6 +29,7 @@ pub fn some_references_need_their_item()
     ensures cdsc { why (third_to_second "cdsc") (Remove 2) ≡ None }
     ensures auxl { why (third_to_second "auxl") (Remove 2) ≡ None }
     ensures later_list { why (third_refers (references "auxl" (1 ∷ []) ∷ references "dimg" (1 ∷ []) ∷ references "prem" (1 ∷ 1 ∷ 2 ∷ []) ∷ [])) (Remove 2) ≡ Some (Needed 3) }
+    ensures another_id { why (third_refers (references "dimg" (1 ∷ []) ∷ [])) (Remove 2) ≡ None }
     ensures itself { why (third_refers (references "prem" (3 ∷ []) ∷ [])) (Remove 3) ≡ None }
     ensures the_other_way { why (third_to_second "tbas") (Remove 3) ≡ None }
     ensures least { why needed_by_three (Remove 2) ≡ Some (Needed 4) }
