@@ -44,8 +44,8 @@ any_not p (y ∷ ys) x none is = elim (either (p y)) [
   | inl held ↦ (let e : list_any p (y ∷ ys) ≡ true = rw held refl in absurd (cc))
   | inr fails ↦ (
       let e : list_any p (y ∷ ys) ≡ list_any p ys = rw fails refl in
-      elim is [ | inl same ↦ ap p (sym same) ∙ fails | inr later ↦ any_not p ys x (sym e ∙ none) later ]
-    )
+      elim is [ inl same ↦ ap p (sym same) ∙ fails | inr later ↦ any_not p ys x (sym e ∙ none) later ]
+      )
 ]
 
 -- the second test fails where the first holds
@@ -66,7 +66,7 @@ piece_fits base e source within = elim (either (e.length == 0)) [
       let fits : base + e.offset + e.length ≤ length source = grind (arith, nat_tests) in
       let enough : e.length ≤ length (drop (base + e.offset) source) = omega (arith, length-drop (base + e.offset) source) in
       (take e.length (drop (base + e.offset) source), rw (part, within) refl, rw part (length-take-le e.length (drop (base + e.offset) source) enough))
-    )
+      )
 ]
 
 -- where a source is known, an extent that does not pass its end has a piece
@@ -125,7 +125,7 @@ pub not_endless : (items : List Located) (r : Located) → loc_cycle_fault items
 unfolding loc_cycle_fault
 not_endless items r ending is =
     let e : not (ends items r) ≡ false = none_has (is_endless items) (λ id. LocCycle id) items r ending is in
-    elim (either (ends items r)) [ | inl held ↦ held | inr fails ↦ (let f : not (ends items r) ≡ true = rw fails refl in absurd (cc)) ]
+    elim (either (ends items r)) [ inl held ↦ held | inr fails ↦ (let f : not (ends items r) ≡ true = rw fails refl in absurd (cc)) ]
 
 pub fine_ends : (F : List ℕ) (idat : Option (List ℕ)) (items : List Located) (r : Located) → AreFine F idat items → IsIn r items → ends items r ≡ true
 fine_ends F idat items r p is = not_endless items r p.ending is
@@ -149,26 +149,26 @@ part_there F idat items r e other size fine is sources = elim (either (r.method 
       let n : by_method r.method (length F) (inner_size idat) (told 0 size (source_of items r e)) ≡ size s.0 = by_item r.method (length F) (inner_size idat) _ two ∙ ap (told 0 size) s.1 in
       let found = extent_fits r.base e _ known.0 (size s.0) o known.2 within_s in
       (found.0, found.1, found.2 ∙ ap (λ k. if e.length == 0 then k else e.length) (sym n))
-    )
+      )
   | inr two ↦ elim (either (r.method == 1)) [
-      | inl one ↦ (
-          let inner = idat_there idat (second (has_extents r.extents) (is_none idat) (second (r.method == 1) _ fine.inner one) (not_empty e r.extents is)) in
-          let within : passes (inner_size idat) r e ≡ false = any_not (passes (inner_size idat) r) r.extents e (second (r.method == 1) _ fine.in_idat one) is in
-          let o : by_method r.method (Some F) idat (told None other (source_of items r e)) ≡ Some inner.0 = by_idat r.method (Some F) idat _ two one ∙ inner.1 in
-          let n : by_method r.method (length F) (inner_size idat) (told 0 size (source_of items r e)) ≡ inner_size idat = by_idat r.method (length F) (inner_size idat) _ two one in
-          let found = extent_fits r.base e _ inner.0 (inner_size idat) o inner.2 within in
-          (found.0, found.1, found.2 ∙ ap (λ k. if e.length == 0 then k else e.length) (sym n))
+    | inl one ↦ (
+        let inner = idat_there idat (second (has_extents r.extents) (is_none idat) (second (r.method == 1) _ fine.inner one) (not_empty e r.extents is)) in
+        let within : passes (inner_size idat) r e ≡ false = any_not (passes (inner_size idat) r) r.extents e (second (r.method == 1) _ fine.in_idat one) is in
+        let o : by_method r.method (Some F) idat (told None other (source_of items r e)) ≡ Some inner.0 = by_idat r.method (Some F) idat _ two one ∙ inner.1 in
+        let n : by_method r.method (length F) (inner_size idat) (told 0 size (source_of items r e)) ≡ inner_size idat = by_idat r.method (length F) (inner_size idat) _ two one in
+        let found = extent_fits r.base e _ inner.0 (inner_size idat) o inner.2 within in
+        (found.0, found.1, found.2 ∙ ap (λ k. if e.length == 0 then k else e.length) (sym n))
         )
-      | inr one ↦ (
-          let known : nat_lt 2 r.method ≡ false = fine.known in
-          let zero_method : (r.method == 0) ≡ true = grind (arith, nat_tests) in
-          let within : passes (length F) r e ≡ false = any_not (passes (length F) r) r.extents e (second (r.method == 0) _ fine.in_file zero_method) is in
-          let o : by_method r.method (Some F) idat (told None other (source_of items r e)) ≡ Some F = by_file r.method (Some F) idat _ two one in
-          let n : by_method r.method (length F) (inner_size idat) (told 0 size (source_of items r e)) ≡ length F = by_file r.method (length F) (inner_size idat) _ two one in
-          let found = extent_fits r.base e _ F (length F) o refl within in
-          (found.0, found.1, found.2 ∙ ap (λ k. if e.length == 0 then k else e.length) (sym n))
+    | inr one ↦ (
+        let known : nat_lt 2 r.method ≡ false = fine.known in
+        let zero_method : (r.method == 0) ≡ true = grind (arith, nat_tests) in
+        let within : passes (length F) r e ≡ false = any_not (passes (length F) r) r.extents e (second (r.method == 0) _ fine.in_file zero_method) is in
+        let o : by_method r.method (Some F) idat (told None other (source_of items r e)) ≡ Some F = by_file r.method (Some F) idat _ two one in
+        let n : by_method r.method (length F) (inner_size idat) (told 0 size (source_of items r e)) ≡ length F = by_file r.method (length F) (inner_size idat) _ two one in
+        let found = extent_fits r.base e _ F (length F) o refl within in
+        (found.0, found.1, found.2 ∙ ap (λ k. if e.length == 0 then k else e.length) (sym n))
         )
-    ]
+  ]
 ]
 
 levels_there : (F : List ℕ) (idat : Option (List ℕ)) (items : List Located) → AreFine F idat items → (n : ℕ) (r : Located) → IsIn r items → over false (ends_in items) n r ≡ true → n ≤ suc (length items)
@@ -178,10 +178,10 @@ levels_there F idat items fine zero r is end few = absurd (false≢true end)
 levels_there F idat items fine (suc n) r is end few =
     joined_there (piece_in F idat items (over None (bytes_in F idat items) n) r) (extent_size (length F) (inner_size idat) items (over 0 (size_in (length F) (inner_size idat) items) n) r) r.extents
     (λ e within. part_there F idat items r e (over None (bytes_in F idat items) n) (over 0 (size_in (length F) (inner_size idat) items) n) (fine_item F idat items r fine is) within
-      (λ two s found.
-          let ends_s : over false (ends_in items) n s ≡ true = source_ends items (over false (ends_in items) n) r e s end within two found in
-          let known = levels_there F idat items fine n s (source_in items r e s found) ends_s (omega arith) in
-          (known.0, known.1, known.2, stable 0 (size_in (length F) (inner_size idat) items) items (size_local (length F) (inner_size idat) items) n n (suc (length items)) s ends_s (omega arith) (omega arith))))
+    (λ two s found.
+    let ends_s : over false (ends_in items) n s ≡ true = source_ends items (over false (ends_in items) n) r e s end within two found in
+    let known = levels_there F idat items fine n s (source_in items r e s found) ends_s (omega arith) in
+    (known.0, known.1, known.2, stable 0 (size_in (length F) (inner_size idat) items) items (size_local (length F) (inner_size idat) items) n n (suc (length items)) s ends_s (omega arith) (omega arith))))
 
 -- an item without a fault has bytes, and as many as its extents state
 pub bytes_there : (F : List ℕ) (idat : Option (List ℕ)) (items : List Located) (r : Located) → locations_fault F idat items ≡ Ok tt → IsIn r items

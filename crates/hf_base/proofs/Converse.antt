@@ -44,16 +44,16 @@ piece_back base e (Some source) p found = elim (either (e.length == 0)) [
   | inl whole ↦ (
       let same : source ≡ p = same_list source p (rw whole at found) in
       record { source = source; is = refl; size = rw whole (ap length (sym same)); within = λ part. absurd (false≢true (sym part ∙ whole)) }
-    )
+      )
   | inr part ↦ elim (either (nat_lt (length source) (base + e.offset + e.length))) [
-      | inl past ↦ (let none : ◌≡◌ {A = Option (List ℕ)} None (Some p) = rw (part, past) at found in absurd (cc))
-      | inr fits ↦ (
-          let same : take e.length (drop (base + e.offset) source) ≡ p = same_list _ p (rw (part, fits) at found) in
-          let enough : base + e.offset + e.length ≤ length source = grind (arith, nat_tests) in
-          let room : e.length ≤ length (drop (base + e.offset) source) = omega (arith, length-drop (base + e.offset) source) in
-          record { source = source; is = refl; size = rw part (ap length (sym same) ∙ length-take-le e.length (drop (base + e.offset) source) room); within = λ _. fits }
+    | inl past ↦ (let none : ◌≡◌ {A = Option (List ℕ)} None (Some p) = rw (part, past) at found in absurd (cc))
+    | inr fits ↦ (
+        let same : take e.length (drop (base + e.offset) source) ≡ p = same_list _ p (rw (part, fits) at found) in
+        let enough : base + e.offset + e.length ≤ length source = grind (arith, nat_tests) in
+        let room : e.length ≤ length (drop (base + e.offset) source) = omega (arith, length-drop (base + e.offset) source) in
+        record { source = source; is = refl; size = rw part (ap length (sym same) ∙ length-take-le e.length (drop (base + e.offset) source) room); within = λ _. fits }
         )
-    ]
+  ]
 ]
 
 -- ---- all extents
@@ -95,7 +95,7 @@ in_file : {A : Type 0} (method : ℕ) (a b c : A) → (method == 2) ≡ false �
 in_file method a b c two one = rw (two, one) refl
 
 not_item : (method : ℕ) (b : Bool) → (method == 2) ≡ false → by_method method true true b ≡ true
-not_item method b other = elim (either (method == 1)) [ | inl one ↦ rw (other, one) refl | inr one ↦ rw (other, one) refl ]
+not_item method b other = elim (either (method == 1)) [ inl one ↦ rw (other, one) refl | inr one ↦ rw (other, one) refl ]
 
 inner_is : (idat : Option (List ℕ)) (b : List ℕ) → idat ≡ Some b → length b ≡ inner_size idat
 inner_is None b e = absurd (cc)
@@ -108,34 +108,34 @@ source_is F idat items r e other size source is sizes = elim (either (r.method =
   | inl two ↦ (
       let s = told_back other (source_of items r e) source (sym (in_other r.method (Some F) idat _ two) ∙ is) in
       sizes s.0 s.1 source s.2 ∙ ap (told 0 size) (sym s.1) ∙ sym (in_other r.method (length F) (inner_size idat) _ two)
-    )
+      )
   | inr two ↦ elim (either (r.method == 1)) [
-      | inl one ↦ inner_is idat source (sym (in_idat r.method (Some F) idat _ two one) ∙ is) ∙ sym (in_idat r.method (length F) (inner_size idat) _ two one)
-      | inr one ↦ ap length (sym (same_list F source (sym (in_file r.method (Some F) idat _ two one) ∙ is))) ∙ sym (in_file r.method (length F) (inner_size idat) _ two one)
-    ]
+    | inl one ↦ inner_is idat source (sym (in_idat r.method (Some F) idat _ two one) ∙ is) ∙ sym (in_idat r.method (length F) (inner_size idat) _ two one)
+    | inr one ↦ ap length (sym (same_list F source (sym (in_file r.method (Some F) idat _ two one) ∙ is))) ∙ sym (in_file r.method (length F) (inner_size idat) _ two one)
+  ]
 ]
 
 pub levels_back : (F : List ℕ) (idat : Option (List ℕ)) (items : List Located) (n : ℕ) (r : Located) (b : List ℕ) → over None (bytes_in F idat items) n r ≡ Some b
     → (over false (ends_in items) n r ≡ true) × (length b ≡ over 0 (size_in (length F) (inner_size idat) items) n r)
 unfolding over
 levels_back F idat items zero r b there = absurd (cc)
-levels_back F idat items (suc n) r b there =
-    ( all_from (λ (e : Extent). by_method r.method true true (told false (over false (ends_in items) n) (source_of items r e))) r.extents
+levels_back F idat items (suc n) r b there = (
+  all_from (λ (e : Extent). by_method r.method true true (told false (over false (ends_in items) n) (source_of items r e))) r.extents
       (λ e is. elim (either (r.method == 2)) [
         | inl two ↦ (
             let p = each_there (piece_in F idat items (over None (bytes_in F idat items) n) r) r.extents b there e is in
             let part = piece_back r.base e _ p.0 p.1 in
             let s = told_back (over None (bytes_in F idat items) n) (source_of items r e) part.source (sym (in_other r.method (Some F) idat _ two) ∙ part.is) in
             in_item r.method true true _ two ∙ ap (told false (over false (ends_in items) n)) s.1 ∙ (levels_back F idat items n s.0 part.source s.2).0
-          )
+            )
         | inr other ↦ not_item r.method _ other
-      ])
-    , whole_size (piece_in F idat items (over None (bytes_in F idat items) n) r) (extent_size (length F) (inner_size idat) items (over 0 (size_in (length F) (inner_size idat) items) n) r) r.extents b there
+      ]),
+  whole_size (piece_in F idat items (over None (bytes_in F idat items) n) r) (extent_size (length F) (inner_size idat) items (over 0 (size_in (length F) (inner_size idat) items) n) r) r.extents b there
       (λ e is p found.
-        let part = piece_back r.base e _ p found in
-        part.size ∙ ap (λ k. if e.length == 0 then k else e.length)
-        (source_is F idat items r e (over None (bytes_in F idat items) n) (over 0 (size_in (length F) (inner_size idat) items) n) part.source part.is (λ s _ c known. (levels_back F idat items n s c known).1)))
-    )
+      let part = piece_back r.base e _ p found in
+      part.size ∙ ap (λ k. if e.length == 0 then k else e.length)
+      (source_is F idat items r e (over None (bytes_in F idat items) n) (over 0 (size_in (length F) (inner_size idat) items) n) part.source part.is (λ s _ c known. (levels_back F idat items n s c known).1))),
+)
 
 pub bytes_end : (F : List ℕ) (idat : Option (List ℕ)) (items : List Located) (r : Located) (b : List ℕ) → bytes_of F idat items r ≡ Some b → ends items r ≡ true
 unfolding over bytes_of ends
@@ -176,7 +176,7 @@ inside F idat items r placed e is source within = elim (either (e.length == 0)) 
       let whole : is_whole r e ≡ true = whole_then (e.length == 0) (is_whole r e) ok zero_long in
       let start : (r.base + e.offset == 0) ≡ true = (and_parts (length r.extents == 1) (r.base + e.offset == 0) (and_parts _ ((length r.extents == 1) && (r.base + e.offset == 0)) whole).1).1 in
       le-ltb (length source) (r.base + e.offset + e.length) (grind (arith, nat_tests))
-    )
+      )
   | inr part ↦ within part
 ]
 
@@ -190,7 +190,7 @@ one_of n one = grind (arith, nat_tests)
 zero_of : (n : ℕ) → (n == 0) ≡ true → ((n == 2) ≡ false) × ((n == 1) ≡ false)
 zero_of n none = (grind (arith, nat_tests), grind (arith, nat_tests))
 
-within_limit : (limit total : ℕ) (why : ℕ → ReadRefusal) → total ≤ limit → limited limit why total ≡ Ok tt
+pub within_limit : (limit total : ℕ) (why : ℕ → ReadRefusal) → total ≤ limit → limited limit why total ≡ Ok tt
 within_limit limit total why few = let t : nat_lt limit total ≡ false = le-ltb limit total few in rw t refl
 
 ends_fine : (items : List Located) (r : Located) → ends items r ≡ true → is_endless items r ≡ false
@@ -198,36 +198,36 @@ ends_fine items r e = rw e refl
 
 named_fine : (F : List ℕ) (idat : Option (List ℕ)) (items : List Located) (r : Located) → IsPlaced F idat items r → has_bad_index items r ≡ false
 named_fine F idat items r placed = where_first (r.method == 2) _ (λ two. any_none (λ (e : Extent). is_none (source_of items r e)) r.extents (λ e is.
-  let part = (part_of F idat items r placed e is).1 in
-  let s = told_back (bytes_of F idat items) (source_of items r e) part.source (sym (in_other r.method (Some F) idat _ two) ∙ part.is) in
-  ap is_none s.1))
+    let part = (part_of F idat items r placed e is).1 in
+    let s = told_back (bytes_of F idat items) (source_of items r e) part.source (sym (in_other r.method (Some F) idat _ two) ∙ part.is) in
+    ap is_none s.1))
 
 inner_fine : (F : List ℕ) (idat : Option (List ℕ)) (items : List Located) (r : Located) → IsPlaced F idat items r → lacks_idat idat r ≡ false
 inner_fine F idat items r placed = where_first (r.method == 1) _ (λ one. where_first (has_extents r.extents) (is_none idat) (λ some.
-  let e = some_extent r.extents some in
-  let part = (part_of F idat items r placed e.0 e.1).1 in
-  let there : idat ≡ Some part.source = sym (in_idat r.method (Some F) idat _ (one_of r.method one) one) ∙ part.is in
-  ap is_none there))
+    let e = some_extent r.extents some in
+    let part = (part_of F idat items r placed e.0 e.1).1 in
+    let there : idat ≡ Some part.source = sym (in_idat r.method (Some F) idat _ (one_of r.method one) one) ∙ part.is in
+    ap is_none there))
 
 file_fine : (F : List ℕ) (idat : Option (List ℕ)) (items : List Located) (r : Located) → IsPlaced F idat items r → is_out_of_file (length F) r ≡ false
 file_fine F idat items r placed = where_first (r.method == 0) _ (λ none. any_none (passes (length F) r) r.extents (λ e is.
-  let part = (part_of F idat items r placed e is).1 in
-  let other = zero_of r.method none in
-  let same : F ≡ part.source = same_list F part.source (sym (in_file r.method (Some F) idat _ other.0 other.1) ∙ part.is) in
-  ap (λ (l : List ℕ). passes (length l) r e) same ∙ inside F idat items r placed e is part.source part.within))
+    let part = (part_of F idat items r placed e is).1 in
+    let other = zero_of r.method none in
+    let same : F ≡ part.source = same_list F part.source (sym (in_file r.method (Some F) idat _ other.0 other.1) ∙ part.is) in
+    ap (λ (l : List ℕ). passes (length l) r e) same ∙ inside F idat items r placed e is part.source part.within))
 
 idat_fine : (F : List ℕ) (idat : Option (List ℕ)) (items : List Located) (r : Located) → IsPlaced F idat items r → is_out_of_idat (inner_size idat) r ≡ false
 idat_fine F idat items r placed = where_first (r.method == 1) _ (λ one. any_none (passes (inner_size idat) r) r.extents (λ e is.
-  let part = (part_of F idat items r placed e is).1 in
-  let there : idat ≡ Some part.source = sym (in_idat r.method (Some F) idat _ (one_of r.method one) one) ∙ part.is in
-  ap (λ n. passes n r e) (sym (inner_is idat part.source there)) ∙ inside F idat items r placed e is part.source part.within))
+    let part = (part_of F idat items r placed e is).1 in
+    let there : idat ≡ Some part.source = sym (in_idat r.method (Some F) idat _ (one_of r.method one) one) ∙ part.is in
+    ap (λ n. passes n r e) (sym (inner_is idat part.source there)) ∙ inside F idat items r placed e is part.source part.within))
 
 items_fine : (F : List ℕ) (idat : Option (List ℕ)) (items : List Located) (r : Located) → IsPlaced F idat items r → is_out_of_item (length F) (inner_size idat) items r ≡ false
 items_fine F idat items r placed = where_first (r.method == 2) _ (λ two. any_none (λ (e : Extent). passes (told 0 (size_of (length F) (inner_size idat) items) (source_of items r e)) r e) r.extents (λ e is.
-  let part = (part_of F idat items r placed e is).1 in
-  let s = told_back (bytes_of F idat items) (source_of items r e) part.source (sym (in_other r.method (Some F) idat _ two) ∙ part.is) in
-  let n : told 0 (size_of (length F) (inner_size idat) items) (source_of items r e) ≡ length part.source = ap (told 0 (size_of (length F) (inner_size idat) items)) s.1 ∙ sym (bytes_size F idat items s.0 part.source s.2) in
-  ap (λ k. passes k r e) n ∙ inside F idat items r placed e is part.source part.within))
+    let part = (part_of F idat items r placed e is).1 in
+    let s = told_back (bytes_of F idat items) (source_of items r e) part.source (sym (in_other r.method (Some F) idat _ two) ∙ part.is) in
+    let n : told 0 (size_of (length F) (inner_size idat) items) (source_of items r e) ≡ length part.source = ap (told 0 (size_of (length F) (inner_size idat) items)) s.1 ∙ sym (bytes_size F idat items s.0 part.source s.2) in
+    ap (λ k. passes k r e) n ∙ inside F idat items r placed e is part.source part.within))
 
 pub no_fault : (F : List ℕ) (idat : Option (List ℕ)) (items : List Located) → ArePlaced F idat items → locations_fault F idat items ≡ Ok tt
 unfolding external_fault bad_method_fault zero_length_fault no_idat_fault bad_index_fault loc_cycle_fault out_of_file_fault out_of_idat_fault too_scattered_fault out_of_item_fault too_many_bytes_fault
@@ -245,7 +245,7 @@ no_fault F idat items placed = let each = placed.each in fine_parts F idat items
   small = within_limit BODY _ (λ total. TooManyBytes total) placed.small;
 })
 
-limit_kept : (limit total : ℕ) (why : ℕ → ReadRefusal) → limited limit why total ≡ Ok tt → total ≤ limit
+pub limit_kept : (limit total : ℕ) (why : ℕ → ReadRefusal) → limited limit why total ≡ Ok tt → total ≤ limit
 limit_kept limit total why fine = elim (either (nat_lt limit total)) [
   | inl over ↦ (let e = rw over at fine in absurd (cc))
   | inr within ↦ grind (arith, nat_tests)
@@ -257,14 +257,14 @@ placed F idat items fine =
     let p = parts_fine F idat items fine in
     record {
       each = λ r is.
-        let b = bytes_there F idat items r fine is in
-        record {
-          here = none_has is_external (λ id. External id) items r p.here is;
-          known = none_has has_bad_method (λ id. BadMethod id) items r p.known is;
-          whole = none_has has_zero_length (λ id. ZeroLength id) items r p.whole is;
-          bytes = b.0;
-          are = b.1;
-        };
+          let b = bytes_there F idat items r fine is in
+          record {
+            here = none_has is_external (λ id. External id) items r p.here is;
+            known = none_has has_bad_method (λ id. BadMethod id) items r p.known is;
+            whole = none_has has_zero_length (λ id. ZeroLength id) items r p.whole is;
+            bytes = b.0;
+            are = b.1;
+          };
       few = limit_kept PIECES _ (λ count. TooScattered count) p.few;
       small = limit_kept BODY _ (λ total. TooManyBytes total) p.small;
     }

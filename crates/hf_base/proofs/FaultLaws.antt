@@ -37,7 +37,7 @@ none_has has why (x ∷ xs) r fine is = elim (either (has x)) [
         | inl same ↦ ap has (sym same) ∙ fails
         | inr later ↦ none_has has why xs r rest later
       ]
-    )
+      )
 ]
 
 pub none_refused : (has : Located → Bool) (why : ℕ → ReadRefusal) (items : List Located) → ((r : Located) → IsIn r items → has r ≡ false) → refused why (first_with has items) ≡ Ok tt

@@ -1,6 +1,7 @@
 //! Numbers, limits and refusals, and the fields that every reader begins with.
 #![tactic(auto)]
 
+pub mod chain_laws;
 mod fault;
 mod four;
 mod front;
@@ -14,6 +15,7 @@ mod number;
 mod seen;
 mod series;
 pub mod worked;
+pub mod worked_locations;
 
 pub use fault::{NoMemory, OpenFault, ReadRefusal};
 pub use four::{FourCc, four_at};

@@ -1,2 +1,3 @@
-pub mod Joins
+mod Cuts
 mod Fronts
+pub mod Joins

@@ -1,7 +1,7 @@
 //! Slices of a file, one behind the other.
 
 ghost use Rattle.std.specs.Prelude.{◌≡◌, ◌+◌, ◌≤◌, ◌<◌, ◌^◌, ◌++◌, [], List, ℕ, length, take, drop, min, slice_get, Some, IsOk, IfOk, OnOk, OnErr};
-ghost use Rattle.hf_pieces.specs.Bytes.{joined, with_piece};
+ghost use Rattle.hf_pieces.specs.Bytes.{joined, with_piece, BeginsWith};
 
 use hf_base::NoMemory;
 use std::alloc::Global;
@@ -51,6 +51,53 @@ impl<'a> Pieces<'a> {
         }
         self.slices.push(piece)?;
         self.sum += piece.len() as u64;
+        Ok(())
+    }
+
+    /// Leaves the first so many pieces, which have so many bytes.
+    fn shorten(&mut self, count: usize, sum: u64)
+        requires within { count ≤ length self.old }
+        requires bytes { sum ≡ length (joined (take count self.old)) }
+        requires few { sum ≤ 2 ^ 62 }
+        ensures { self.new ≡ take count self.old }
+    {
+        self.slices.truncate(count);
+        self.sum = sum;
+    }
+
+    /// As `append_cut`, but after `NoMemory` a part of the bytes may be there.
+    fn add_cut(&mut self, from: &Pieces<'a>, at: u64, len: u64) -> Result<(), NoMemory>
+        requires within { at + len ≤ length (joined from.now) }
+        requires room { length (joined self.old) + len ≤ 2 ^ 62 }
+        ensures bytes { OnOk result (joined self.new ≡ joined self.old ++ take len (drop at (joined from.now))) }
+        ensures begins { BeginsWith self.old self.new }
+    {
+        let mut skip = at;
+        let mut left = len;
+        for slice in &from.slices {
+            let start = skip.min(slice.len() as u64);
+            let count = left.min(slice.len() as u64 - start);
+            self.push(&slice[start as usize..(start + count) as usize])?;
+            skip -= start;
+            left -= count;
+        }
+        Ok(())
+    }
+
+    /// Appends so many bytes of other pieces, from a place on, where they lie: none is copied. After
+    /// `NoMemory` the pieces are as before. It takes time that grows with the pieces of `from`.
+    pub fn append_cut(&mut self, from: &Pieces<'a>, at: u64, len: u64) -> Result<(), NoMemory>
+        requires within { at + len ≤ length (joined from.now) }
+        requires room { length (joined self.old) + len ≤ 2 ^ 62 }
+        ensures bytes { OnOk result (joined self.new ≡ joined self.old ++ take len (drop at (joined from.now))) }
+        ensures unchanged { OnErr result (self.new ≡ self.old) }
+    {
+        let count = self.slices.len();
+        let sum = self.sum;
+        if self.add_cut(from, at, len).is_err() {
+            self.shorten(count, sum);
+            return Err(NoMemory);
+        }
         Ok(())
     }
 
