@@ -7,6 +7,8 @@ ghost use Rattle.hf_box.specs.Boxes.{BoxAt};
 ghost use Rattle.hf_derived.specs.Cycle.{AreAmong, IsLeastCycle};
 ghost use Rattle.hf_info.specs.Iinf.{info_ids};
 ghost use Rattle.hf_info.specs.Infe.{Info};
+ghost use Rattle.hf_store.specs.Store.{ItemStore};
+ghost use Rattle.hf_read.specs.Denotes.{Denotes};
 ghost use Rattle.hf_read.specs.Tables.{infos_by_id, item_ids};
 ghost use Rattle.hf_read.specs.TopLevel.{Parts, AreParts, parts_of};
 ghost use Rattle.hf_read.specs.Walks.{first_walker};
@@ -26,4 +28,9 @@ pub fn first_walker_is_the_least()
 pub fn rising_entries_rise()
     ensures members { (xs : List Info) (x : Info) → IsIn x (infos_by_id xs) ↔ IsIn x xs }
     ensures rises { (xs : List Info) → IsTrue (are_distinct (info_ids xs)) → Rises ◌<◌ (item_ids xs) }
+{}
+
+/// A file denotes at most one store.
+pub fn denotes_one_store()
+    ensures { (F : List ℕ) (s t : ItemStore) → Denotes F s → Denotes F t → s ≡ t }
 {}
