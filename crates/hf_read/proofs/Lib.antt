@@ -6,3 +6,6 @@ pub mod DenotesLaws
 pub mod PartFaults
 pub mod ReadLaws
 pub mod TableParts
+pub mod Filters
+pub mod ItemLaws
+pub mod KeptRefs

@@ -3,7 +3,6 @@ use Rattle.std.proofs.Common.{◌≡◌, ℕ, ◌≤◌, Bool, true, false, not,
 use Rattle.std.specs.List.{AllByRecursion, filter, flat_map, list_any}
 use Rattle.std.specs.Option.{option_map}
 use Rattle.std.proofs.lemmas.Bool.{cases_Bool, eqb-true, eq-eqb, ltb-false, le-ltb}
-use Rattle.std.proofs.lemmas.List.Concat.{flat_map-cons}
 use Rattle.hf_base.specs.Entries.{has_id}
 use Rattle.hf_base.specs.EntryLaws.{refused_not}
 use Rattle.hf_base.specs.LocationFaults.{refused}
@@ -21,13 +20,9 @@ use Rattle.hf_store.specs.Changes.{is_need}
 use Rattle.hf_read.specs.Denotes.{NeedsAreItems, PicksAreProps}
 use Rattle.hf_read.specs.Faults.{no_primary_fault, is_dangling, dangling_need_fault, is_past, bad_property_fault}
 use Rattle.hf_read.specs.Kept.{picks_of}
-use Rattle.hf_read.proofs.WalkLaws.{passes, passed}
+use Rattle.hf_read.proofs.Filters.{passes, passed, any_none, in_flat, from_flat}
 
 -- ---- tests of lists
-
-pub any_none : {A : Type 0} (test : A → Bool) (xs : List A) → ((x : A) → IsIn x xs → test x ≡ false) → list_any test xs ≡ false
-any_none test [] each = refl
-any_none test (x ∷ xs) each = let here = each x (inl refl) in rw here (any_none test xs (λ y h. each y (inr h)))
 
 -- no element of a list passes a test, exactly where none is refused
 pub found_none : (why : ℕ → ReadRefusal) (test : ℕ → Bool) (ids : List ℕ) → refused why (find test ids) ≡ Ok tt → (x : ℕ) → IsIn x ids → test x ≡ false
@@ -45,20 +40,6 @@ none_found why test (id ∷ ids) each =
     let f = each id (inl refl) in
     let e : find test (id ∷ ids) ≡ find test ids = rw f refl in
     ap (refused why) e ∙ none_found why test ids (λ x h. each x (inr h))
-
--- ---- members of joined lists
-
-pub in_flat : {A B : Type 0} (f : A → List B) (xs : List A) (x : A) (y : B) → IsIn x xs → IsIn y (f x) → IsIn y (flat_map f xs)
-in_flat f [] x y h k = absurd h
-in_flat {B = B} f (z ∷ zs) x y (inl e) k = subst (λ (l : List B). IsIn y l) (sym (flat_map-cons f z zs)) (in_front y (f z) (flat_map f zs) (subst (λ w. IsIn y (f w)) (sym e) k))
-in_flat {B = B} f (z ∷ zs) x y (inr h) k = subst (λ (l : List B). IsIn y l) (sym (flat_map-cons f z zs)) (in_back y (f z) (flat_map f zs) (in_flat f zs x y h k))
-
-pub from_flat : {A B : Type 0} (f : A → List B) (xs : List A) (y : B) → IsIn y (flat_map f xs) → (x : A) × IsIn x xs × IsIn y (f x)
-from_flat f [] y h = absurd h
-from_flat {B = B} f (z ∷ zs) y h = elim (in_joined y (f z) (flat_map f zs) (subst (λ (l : List B). IsIn y l) (flat_map-cons f z zs) h)) [
-  | inl here ↦ (z, inl refl, here)
-  | inr there ↦ let r = from_flat f zs y there in (r.0, inr r.1, r.2)
-]
 
 -- ---- the primary item
 

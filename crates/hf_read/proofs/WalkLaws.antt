@@ -9,37 +9,10 @@ use Rattle.hf_base.specs.Members.{IsIn, RisesFrom, Rises}
 use Rattle.hf_order.specs.Order.{IsEndless, StartsEndless}
 use Rattle.hf_order.proofs.Members.{in_all, in_filter, has_in, in_has}
 use Rattle.hf_derived.specs.Cycle.{AreAmong, IsLeastCycle}
+use Rattle.hf_read.proofs.Filters.{passes, passed}
 use Rattle.hf_read.specs.Walks.{next_of, leads_to, walkers, first_walker}
 
 -- ---- filters
-
-pub passes : {A : Type 0} (test : A → Bool) (xs : List A) (x : A) → IsIn x xs → test x ≡ true → IsIn x (filter test xs)
-passes test [] x h t = absurd h
-passes {A = A} test (y ∷ ys) x h t = elim (cases_Bool (test y)) [
-  | inl on ↦
-      let whole : filter test (y ∷ ys) ≡ y ∷ filter test ys = rw on refl in
-      let kept : IsIn x (y ∷ filter test ys) = elim h [ inl e ↦ inl e | inr k ↦ inr (passes test ys x k t) ] in
-      subst (λ (l : List A). IsIn x l) (sym whole) kept
-  | inr off ↦
-      let rest : filter test (y ∷ ys) ≡ filter test ys = rw off refl in
-      let kept : IsIn x (filter test ys) = elim h [
-        | inl e ↦ absurd (let both : true ≡ false = sym t ∙ sym (ap test e) ∙ off in cc)
-        | inr k ↦ passes test ys x k t
-      ] in
-      subst (λ (l : List A). IsIn x l) (sym rest) kept
-]
-
-pub passed : {A : Type 0} (test : A → Bool) (xs : List A) (x : A) → IsIn x (filter test xs) → test x ≡ true
-passed test [] x h = absurd h
-passed {A = A} test (y ∷ ys) x h = elim (cases_Bool (test y)) [
-  | inl on ↦
-      let whole : filter test (y ∷ ys) ≡ y ∷ filter test ys = rw on refl in
-      let kept : IsIn x (y ∷ filter test ys) = subst (λ (l : List A). IsIn x l) whole h in
-      elim kept [ inl e ↦ sym (ap test e) ∙ on | inr k ↦ passed test ys x k ]
-  | inr off ↦
-      let rest : filter test (y ∷ ys) ≡ filter test ys = rw off refl in
-      passed test ys x (subst (λ (l : List A). IsIn x l) rest h)
-]
 
 -- a weaker test before a stronger one changes nothing
 twice : (strong weak : ℕ → Bool) (xs : List ℕ) → ((x : ℕ) → strong x ≡ true → weak x ≡ true) → filter strong (filter weak xs) ≡ filter strong xs
