@@ -9,3 +9,6 @@ pub mod TableParts
 pub mod Filters
 pub mod ItemLaws
 pub mod KeptRefs
+pub mod KeptGroups
+pub mod KeptProps
+pub mod RecordParts
