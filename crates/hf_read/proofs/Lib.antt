@@ -12,3 +12,5 @@ pub mod KeptRefs
 pub mod KeptGroups
 pub mod KeptProps
 pub mod RecordParts
+pub mod StoreFaults
+pub mod StoreLaws
