@@ -14,3 +14,4 @@ pub mod KeptProps
 pub mod RecordParts
 pub mod StoreFaults
 pub mod StoreLaws
+pub mod ReadingLaws
