@@ -15,3 +15,5 @@ pub mod RecordParts
 pub mod StoreFaults
 pub mod StoreLaws
 pub mod ReadingLaws
+pub mod Bytes
+pub mod Opened

@@ -1,3 +1,4 @@
+pub mod Cuts
 pub mod Denotes
 pub mod Faults
 pub mod Kept
@@ -6,3 +7,6 @@ pub mod Rising
 pub mod Tables
 pub mod TopLevel
 pub mod Walks
+pub mod WorkedFiles
+pub mod WorkedStores
+pub mod WorkedTables
