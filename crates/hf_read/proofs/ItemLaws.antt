@@ -96,6 +96,21 @@ sizes_zip F idat t (info ∷ infos) (i ∷ is) z =
     let all = sum_by-cons (λ (n : ℕ). n) (size (located_in t info)) (map size (map (located_in t) infos)) in
     omega (arith, body_sum-cons i is, bytes, others, all)
 
+lengths_zip : (F : List ℕ) (idat : Option (List ℕ)) (t : Tables) (infos : List Info) (is : List Item) → AllZip (IsItemOf F idat t) infos is
+    → map (λ (i : Item). length i.bytes) is ≡ map (size_of (length F) (inner_size idat) (items_in t)) (map (located_in t) infos)
+lengths_zip F idat t [] [] z = refl
+lengths_zip F idat t [] (i ∷ is) z = absurd z
+lengths_zip F idat t (info ∷ infos) [] z = absurd z
+lengths_zip F idat t (info ∷ infos) (i ∷ is) z =
+    let size = size_of (length F) (inner_size idat) (items_in t) in
+    let first : length i.bytes ≡ size (located_in t info) = ap (λ (k : Item). length k.bytes) z.0.is ∙ bytes_size F idat (items_in t) (located_in t info) z.0.placed.bytes z.0.placed.are in
+    let others = lengths_zip F idat t infos is z.1 in
+    ap (λ (n : ℕ). n ∷ map (λ (k : Item). length k.bytes) is) first ∙ ap (λ (l : List ℕ). size (located_in t info) ∷ l) others
+
+pub lengths_are : (F : List ℕ) (idat : Option (List ℕ)) (t : Tables) (is : List Item) → AllZip (IsItemOf F idat t) (infos_by_id t.infos) is
+    → map (λ (i : Item). length i.bytes) is ≡ map (size_of (length F) (inner_size idat) (items_in t)) (items_in t)
+lengths_are F idat t is z = lengths_zip F idat t (infos_by_id t.infos) is z ∙ ap (λ (l : List Located). map (size_of (length F) (inner_size idat) (items_in t)) l) (sym (items_are t))
+
 pub body_is : (F : List ℕ) (idat : Option (List ℕ)) (t : Tables) (is : List Item) → AllZip (IsItemOf F idat t) (infos_by_id t.infos) is
     → body_sum is ≡ sum (map (size_of (length F) (inner_size idat) (items_in t)) (items_in t))
 body_is F idat t is z = sizes_zip F idat t (infos_by_id t.infos) is z ∙ ap (λ (l : List Located). sum (map (size_of (length F) (inner_size idat) (items_in t)) l)) (sym (items_are t))

@@ -6,6 +6,7 @@ pub mod ItemLaws
 pub mod KeptGroups
 pub mod KeptProps
 pub mod KeptRefs
+pub mod LimitLaws
 pub mod Opened
 pub mod PartFaults
 pub mod ReadLaws

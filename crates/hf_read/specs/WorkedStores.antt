@@ -1,5 +1,6 @@
 -- The stores of worked files, beside those that are worked with the definition of a store.
-use Rattle.std.specs.Prelude.{true, false, List, [], ◌∷◌, codes}
+use Rattle.std.specs.Prelude.{ℕ, true, List, [], ◌∷◌, replicate, codes}
+use Prim.Native.String.{String}
 use Rattle.hf_box.specs.Literals.{four, hex_of}
 use Rattle.hf_links.specs.Grpl.{Group}
 use Rattle.hf_store.specs.Store.{Item, ItemStore}
@@ -72,3 +73,7 @@ store_of_all =
         ∷ record made { props = turn ∷ []; refs = references "dimg" (1 ∷ []) ∷ [] }
         ∷ [])
         (less ∷ tailed ∷ [])
+
+-- an item with so many references of this type, each to item 1
+abbrev pub linked : ℕ → String → ℕ → Item
+linked id kind many = record (plain id "hvc1" []) { refs = references kind (replicate many 1) ∷ [] }

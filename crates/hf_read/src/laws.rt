@@ -1,6 +1,7 @@
 //! Laws of the definitions. Each is the contract of a function that does nothing.
 
-ghost use Rattle.std.specs.Prelude.{◌≡◌, ◌↔◌, ◌<◌, ◌≤◌, ℕ, List, length, Some, None, Ok, Err, IsTrue};
+ghost use Rattle.std.specs.Prelude.{◌≡◌, ◌↔◌, ◌<◌, ◌≤◌, ℕ, List, length, map, Some, None, Ok, Err, IsTrue};
+ghost use Rattle.hf_base.specs.Counts.{size_of, inner_size};
 ghost use Rattle.hf_base.specs.Entries.{has_id, are_distinct};
 ghost use Rattle.hf_base.specs.Members.{IsIn, Rises};
 ghost use Rattle.hf_base.specs.Number.{IsBytes};
@@ -14,11 +15,11 @@ ghost use Rattle.hf_info.specs.Infe.{Info};
 ghost use Rattle.hf_prop.specs.declared.iprp.Iprp.{Iprp};
 ghost use Rattle.hf_store.specs.Picks.{Selects};
 ghost use Rattle.hf_store.specs.References.{KeepsRefs};
-ghost use Rattle.hf_store.specs.Store.{ItemStore};
+ghost use Rattle.hf_store.specs.Store.{Item, ItemStore};
 ghost use Rattle.hf_read.specs.Denotes.{PicksAreProps, Denotes, DenotesWithin};
 ghost use Rattle.hf_read.specs.Kept.{picks_of, kept_refs, kept_props};
-ghost use Rattle.hf_read.specs.Reading.{reading, fault_of};
-ghost use Rattle.hf_read.specs.Tables.{infos_by_id, item_ids};
+ghost use Rattle.hf_read.specs.Reading.{idat_of, reading, fault_of};
+ghost use Rattle.hf_read.specs.Tables.{infos_by_id, item_ids, items_in};
 ghost use Rattle.hf_read.specs.TopLevel.{Parts, AreParts, parts_of};
 ghost use Rattle.hf_read.specs.Walks.{first_walker};
 
@@ -66,4 +67,10 @@ pub fn references_are_kept()
 /// is past the last property.
 pub fn properties_are_selected()
     ensures { (ids : List ℕ) (v : Iprp) (id : ℕ) → PicksAreProps ids v → IsIn id ids → Selects v.props (picks_of id v.assocs) (kept_props v id) }
+{}
+
+/// The items of a store that a file denotes have as many bytes as their places state.
+pub fn items_are_as_long_as_stated()
+    ensures { (F : List ℕ) (s : ItemStore) (d : Denotes F s) →
+        map (λ (i : Item). length i.bytes) s.items ≡ map (size_of (length F) (inner_size (idat_of d.parts)) (items_in d.tables)) (items_in d.tables) }
 {}

@@ -2,5 +2,7 @@
 #![tactic(auto)]
 
 pub mod laws;
+pub mod limits;
+pub mod order;
 pub mod refused;
 pub mod worked;
