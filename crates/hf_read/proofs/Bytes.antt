@@ -1,5 +1,5 @@
 -- Worked files are lists of bytes, so what is read of them is what they denote.
-use Rattle.std.proofs.Common.{◌≡◌, ℕ, zero, suc, ◌≤◌, ◌<◌, Bool, true, ltb, List, [], ◌∷◌, length, refl, arith, Ok}
+use Rattle.std.proofs.Common.{◌≡◌, ℕ, zero, suc, ◌≤◌, Bool, true, ltb, List, [], ◌∷◌, length, refl, arith, Ok}
 use Rattle.std.specs.List.{list_all}
 use Rattle.std.proofs.lemmas.Bool.{and_parts, ltb-true}
 use Rattle.hf_base.specs.Number.{IsBytes}

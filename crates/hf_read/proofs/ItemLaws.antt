@@ -1,9 +1,8 @@
 -- The items of a file: they are those of the entries of `iinf`, each with the bytes at its places.
-use Rattle.std.proofs.Common.{◌≡◌, ℕ, ◌+◌, ◌≤◌, List, [], ◌∷◌, length, map, sum, Option, Some, None, refl, sym, ap, subst, ◌∙◌, arith, inl, inr}
+use Rattle.std.proofs.Common.{◌≡◌, ℕ, ◌≤◌, List, [], ◌∷◌, length, map, sum, Option, refl, sym, ap, subst, ◌∙◌, arith, inl, inr}
 use Rattle.std.specs.Prelude.{unwrap_or}
 use Rattle.std.specs.List.{AllZip}
 use Rattle.std.proofs.lemmas.List.Sums.{sum_by-cons}
-use Rattle.hf_base.specs.BytesOf.{bytes_of}
 use Rattle.hf_base.specs.Counts.{leaves_of, size_of, inner_size}
 use Rattle.hf_base.specs.Located.{Located, located_item}
 use Rattle.hf_base.specs.Members.{IsIn}

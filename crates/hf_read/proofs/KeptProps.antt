@@ -1,15 +1,14 @@
 -- The properties that an item holds: those that its associations select, at most 255, and few distinct ones in all.
-use Rattle.std.proofs.Common.{◌≡◌, ℕ, zero, suc, ◌+◌, ◌^◌, ◌≤◌, ◌<◌, Bool, true, false, not, ◌&&◌, ◌||◌, eqb, List, [], ◌∷◌, ◌++◌, length, length-append, take, map, Option, Some, None, refl, sym, ap, subst, ◌∙◌, arith, inl, inr, ◌⊎◌}
+use Rattle.std.proofs.Common.{◌≡◌, ℕ, zero, suc, ◌≤◌, ◌<◌, Bool, true, false, not, eqb, List, [], ◌∷◌, ◌++◌, length, length-append, take, Option, Some, None, refl, sym, ap, subst, ◌∙◌, arith, inl, inr, ◌⊎◌}
 use Rattle.std.specs.Prelude.{slice_get}
-use Rattle.std.specs.List.{AllByRecursion, filter, flat_map, fold, list_any}
+use Rattle.std.specs.List.{filter, flat_map, fold, list_any}
 use Rattle.std.specs.Option.{option_map, option_to_list}
-use Rattle.std.proofs.lemmas.Bool.{cases_Bool, and_parts, eqb-true, eq-eqb}
+use Rattle.std.proofs.lemmas.Bool.{cases_Bool, and_parts, eqb-true}
 use Rattle.std.proofs.lemmas.List.{append-nil}
 use Rattle.std.proofs.lemmas.List.Concat.{flat_map-cons}
-use Rattle.std.proofs.lemmas.Option.{slice_get_within}
 use Rattle.hf_base.specs.Entries.{has_id, are_distinct}
 use Rattle.hf_base.specs.Members.{IsIn}
-use Rattle.hf_order.proofs.Members.{all_from, in_all, in_map, from_map, in_front, in_back, in_joined, in_take, not_has}
+use Rattle.hf_order.proofs.Members.{in_all, from_map, in_front, in_back, in_joined, in_take}
 use Rattle.hf_prop.specs.Held.{Held}
 use Rattle.hf_prop.specs.declared.assoc.Assoc.{Assoc}
 use Rattle.hf_prop.specs.declared.assoc.Pick.{Pick}
@@ -22,7 +21,7 @@ use Rattle.hf_store.specs.Table.{same_prop, props_of, with_prop, table_of}
 use Rattle.hf_store.proofs.Tables.{same_prop-self}
 use Rattle.hf_read.specs.Denotes.{PicksAreProps}
 use Rattle.hf_read.specs.Kept.{picks_of, prop_at, held_at, kept_props}
-use Rattle.hf_read.proofs.Filters.{in_flat, from_flat}
+use Rattle.hf_read.proofs.Filters.{from_flat}
 use Rattle.hf_read.proofs.PartFaults.{from_picks}
 use Rattle.hf_read.proofs.RecordParts.{IsGoodIprp}
 

@@ -1,7 +1,6 @@
 -- Parts over ids that have no fault: what they say of the primary item, of references and of associations.
-use Rattle.std.proofs.Common.{◌≡◌, ℕ, ◌≤◌, Bool, true, false, not, ◌&&◌, ◌||◌, eqb, ltb, List, [], ◌∷◌, ◌++◌, length, find, Option, Some, None, Result, Ok, Err, refl, sym, ap, subst, ◌∙◌, arith, inl, inr, ◌⊎◌}
-use Rattle.std.specs.List.{AllByRecursion, filter, flat_map, list_any}
-use Rattle.std.specs.Option.{option_map}
+use Rattle.std.proofs.Common.{◌≡◌, ℕ, ◌≤◌, Bool, true, false, not, ◌&&◌, eqb, List, [], ◌∷◌, length, find, Ok, Err, refl, sym, ap, subst, ◌∙◌, inl, inr}
+use Rattle.std.specs.List.{filter, list_any}
 use Rattle.std.proofs.lemmas.Bool.{cases_Bool, eqb-true, eq-eqb, ltb-false, le-ltb}
 use Rattle.hf_base.specs.Entries.{has_id}
 use Rattle.hf_base.specs.EntryLaws.{refused_not}
@@ -11,11 +10,10 @@ use Rattle.hf_base.specs.declared.fault.ReadRefusal.{ReadRefusal}
 use Rattle.hf_base.specs.declared.fault.ReadRefusal.TheVariants.{NoPrimary, DanglingNeed, BadProperty}
 use Rattle.hf_base.specs.declared.loc.RefBox.{RefBox}
 use Rattle.hf_base.proofs.BytesLaws.{any_not}
-use Rattle.hf_order.proofs.Members.{in_all, all_from, in_filter, in_front, in_back, in_joined, has_in, in_has}
+use Rattle.hf_order.proofs.Members.{in_all, all_from, in_filter, has_in, in_has}
 use Rattle.hf_prop.specs.declared.assoc.Assoc.{Assoc}
 use Rattle.hf_prop.specs.declared.assoc.Pick.{Pick}
 use Rattle.hf_prop.specs.declared.iprp.Iprp.{Iprp}
-use Rattle.hf_prop.specs.declared.prop.Prop.{Prop}
 use Rattle.hf_store.specs.Changes.{is_need}
 use Rattle.hf_read.specs.Denotes.{NeedsAreItems, PicksAreProps}
 use Rattle.hf_read.specs.Faults.{no_primary_fault, is_dangling, dangling_need_fault, is_past, bad_property_fault}

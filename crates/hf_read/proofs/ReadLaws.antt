@@ -1,14 +1,12 @@
 -- A file that is read from left to right without a fault, by its parts.
-use Rattle.std.proofs.Common.{◌≡◌, ℕ, ◌+◌, ◌≤◌, Bool, true, false, ltb, List, [], ◌∷◌, ◌++◌, length, drop, Result, Ok, Err, Option, Some, None, refl, sym, ap, subst, ◌∙◌, inl, inr}
+use Rattle.std.proofs.Common.{◌≡◌, ℕ, ◌+◌, ◌≤◌, Bool, true, false, ltb, List, [], ◌∷◌, ◌++◌, length, drop, Ok, Err, Option, Some, refl, sym, ap, subst, ◌∙◌, inl, inr}
 use Rattle.std.proofs.lemmas.Bool.{cases_Bool, ltb-false, le-ltb}
 use Rattle.hf_base.specs.LocationFaults.{locations_fault}
 use Rattle.hf_base.specs.Members.{IsIn}
 use Rattle.hf_base.specs.Number.{IsBytes}
 use Rattle.hf_base.specs.Placed.{ArePlaced}
-use Rattle.hf_base.specs.Reading.{◌>>=◌}
 use Rattle.hf_base.specs.ReadingLaws.{bind_ok, chosen, ok_is, IsBytes-drop}
 use Rattle.hf_base.specs.declared.four.FourCc.{FourCc}
-use Rattle.hf_base.specs.declared.fault.ReadRefusal.{ReadRefusal}
 use Rattle.hf_base.specs.declared.fault.ReadRefusal.TheVariants.{BadRecord}
 use Rattle.hf_base.specs.declared.kinds.TheConstants.{FTYP, META, HDLR, PITM, IINF, ILOC, IREF, IPRP, GRPL}
 use Rattle.hf_base.specs.declared.limits.TheConstants.{BOXES, ROWS}
@@ -25,7 +23,7 @@ use Rattle.hf_head.specs.Pitm.{IsPitm, pitm_at}
 use Rattle.hf_head.proofs.FtypLemmas.{ftyp_found, ftyp_only}
 use Rattle.hf_head.proofs.HdlrLemmas.{hdlr_found, hdlr_only}
 use Rattle.hf_head.proofs.PitmLemmas.{pitm_found, pitm_only}
-use Rattle.hf_info.specs.Iinf.{IsIinf, IsIinfWithin, iinf_at}
+use Rattle.hf_info.specs.Iinf.{IsIinfWithin, iinf_at}
 use Rattle.hf_info.proofs.IinfLemmas.{iinf_only, iinf_found}
 use Rattle.hf_loc.specs.Iloc.{loc_rows}
 use Rattle.hf_store.specs.Store.{ItemStore}

@@ -1,21 +1,19 @@
 -- What is read of a file is the store that it denotes within the limits of reading, and a file has no fault exactly where
 -- it denotes one.
-use Rattle.std.proofs.Common.{◌≡◌, ℕ, ◌≤◌, ◌<◌, List, [], ◌∷◌, length, map, Option, Some, None, Result, Ok, Err, refl, sym, ap, subst, ◌∙◌}
+use Rattle.std.proofs.Common.{◌≡◌, ℕ, ◌≤◌, ◌<◌, List, [], ◌∷◌, length, Some, None, Result, Ok, Err, refl, ap, subst, ◌∙◌}
 use Rattle.std.specs.Prelude.{◌↔◌}
-use Rattle.std.specs.List.{AllZip}
 use Rattle.hf_base.specs.Members.{IsIn, Rises, RisesFrom}
 use Rattle.hf_base.specs.Number.{IsBytes}
 use Rattle.hf_base.specs.declared.fault.ReadRefusal.{ReadRefusal}
 use Rattle.hf_base.specs.declared.limits.TheConstants.{FILE}
-use Rattle.hf_head.specs.Ftyp.{Brands}
 use Rattle.hf_links.specs.Grpl.{Group}
 use Rattle.hf_order.proofs.Members.{in_all}
-use Rattle.hf_store.specs.Store.{RefList, Item, ItemStore, ids_of}
+use Rattle.hf_store.specs.Store.{Item, ItemStore, ids_of}
 use Rattle.hf_store.specs.Valid.{IsGoodRef, IsGoodItem, Valid}
 use Rattle.hf_read.specs.Denotes.{Denotes, IsWithin, DenotesWithin}
 use Rattle.hf_read.specs.Reading.{idat_of, store_at, reading, fault_in, fault_of}
 use Rattle.hf_read.specs.Tables.{item_ids, infos_by_id}
-use Rattle.hf_read.proofs.ItemLaws.{ids_zip, zip_items, are_placed, placed_each}
+use Rattle.hf_read.proofs.ItemLaws.{ids_zip, zip_items, are_placed}
 use Rattle.hf_read.proofs.ReadLaws.{AreTables, IsRead, is_read, read_again}
 use Rattle.hf_read.proofs.StoreFaults.{KeepsLimits, derived_fine, limits_fine}
 use Rattle.hf_read.proofs.StoreLaws.{has_mif1_of, read_items, read_groups, lead_to_items, is_valid}

@@ -1,5 +1,5 @@
 -- What stands in the boxes of tables: types of four bytes, and numbers that fit their fields.
-use Rattle.std.proofs.Common.{◌≡◌, ℕ, ◌+◌, ◌*◌, ◌-◌, ◌^◌, ◌≤◌, ◌<◌, Bool, true, false, cond, List, [], ◌∷◌, ◌++◌, length, map, Option, Some, None, refl, sym, ap, subst, ◌∙◌, arith, inl, inr}
+use Rattle.std.proofs.Common.{◌≡◌, ℕ, ◌+◌, ◌^◌, ◌<◌, Bool, true, false, List, [], ◌∷◌, length, map, Option, Some, None, refl, sym, ap, subst, ◌∙◌, arith, inl, inr}
 use Rattle.std.specs.Prelude.{◌%◌, ◌==◌}
 use Rattle.std.specs.List.{AllZip}
 use Rattle.std.proofs.lemmas.Bool.{cases_Bool}
@@ -15,7 +15,7 @@ use Rattle.hf_prop.specs.declared.assoc.Pick.{Pick}
 use Rattle.hf_prop.specs.declared.iprp.Iprp.{Iprp}
 use Rattle.hf_prop.specs.declared.prop.Prop.{Prop}
 use Rattle.hf_prop.specs.Ipma.{pick_width, mark, IsPick, IsAssoc, IsIpma, assoc_ids}
-use Rattle.hf_prop.specs.Iprp.{prop_of, IsIpco, AreProps as ArePropsOf, IsIprp}
+use Rattle.hf_prop.specs.Iprp.{prop_of, AreProps as ArePropsOf, IsIprp}
 use Rattle.hf_read.specs.Tables.{AreLinks, AreProps, AreGroups, no_iprp}
 use Rattle.hf_read.proofs.Filters.{from_flat}
 

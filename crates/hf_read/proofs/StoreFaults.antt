@@ -1,16 +1,14 @@
 -- Parts over the items of a store that have no fault: what they say of it.
-use Rattle.std.proofs.Common.{◌≡◌, ℕ, ◌≤◌, ◌<◌, Bool, true, false, not, ltb, List, [], ◌∷◌, length, map, find, Option, Some, None, Result, Ok, Err, refl, sym, ap, subst, ◌∙◌, inl, inr}
+use Rattle.std.proofs.Common.{◌≡◌, ℕ, ◌≤◌, ◌<◌, Bool, true, false, not, ltb, List, [], ◌∷◌, length, map, Option, Some, None, Err, refl, sym, ap, subst, ◌∙◌, inl, inr}
 use Rattle.std.specs.Prelude.{IsTrue, if◌then◌else◌}
-use Rattle.std.specs.List.{AllByRecursion, list_any}
-use Rattle.std.specs.Option.{option_map}
 use Rattle.std.proofs.lemmas.Bool.{cases_Bool, ltb-false, le-ltb}
 use Rattle.hf_base.specs.EntryLaws.{refused_not}
-use Rattle.hf_base.specs.LocationFaults.{refused, limited}
+use Rattle.hf_base.specs.LocationFaults.{refused}
 use Rattle.hf_base.specs.Members.{IsIn, Rises}
 use Rattle.hf_base.specs.Reading.{◌>>=◌}
 use Rattle.hf_base.specs.ReadingLaws.{bind_ok}
 use Rattle.hf_base.specs.declared.fault.ReadRefusal.{ReadRefusal}
-use Rattle.hf_base.specs.declared.fault.ReadRefusal.TheVariants.{BadDerived, DeriveCycle, TooManyItems, TooManyLinks, MetaTooLong}
+use Rattle.hf_base.specs.declared.fault.ReadRefusal.TheVariants.{BadDerived, DeriveCycle, TooManyItems, TooManyLinks}
 use Rattle.hf_base.specs.declared.limits.TheConstants as limits
 use Rattle.hf_base.proofs.BytesLaws.{any_not}
 use Rattle.hf_box.specs.Literals.{four}

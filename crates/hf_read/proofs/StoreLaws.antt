@@ -1,12 +1,11 @@
 -- The store of a file that was read is valid.
-use Rattle.std.proofs.Common.{◌≡◌, ◌≢◌, ℕ, ◌+◌, ◌%◌, ◌^◌, ◌≤◌, ◌<◌, Bool, true, false, ◌||◌, List, [], ◌∷◌, ◌++◌, length, length-append, take, map, Option, Some, None, refl, sym, ap, subst, ◌∙◌, arith, inl, inr, ◌⊎◌}
+use Rattle.std.proofs.Common.{◌≡◌, ℕ, ◌+◌, ◌≤◌, ◌<◌, true, List, [], ◌∷◌, ◌++◌, length, length-append, take, map, Option, refl, sym, ap, subst, ◌∙◌, arith, inl, inr, ◌⊎◌}
 use Rattle.std.specs.Prelude.{IsTrue, min}
-use Rattle.std.specs.List.{AllByRecursion, AllZip}
+use Rattle.std.specs.List.{AllZip}
 use Rattle.std.specs.Str.{bytes_eq}
 use Rattle.std.proofs.lemmas.Bool.{cases_Bool, or_cases}
 use Rattle.std.proofs.lemmas.List.{length-take}
 use Rattle.std.proofs.lemmas.Slice.Eq.{bytes_eq-Decides}
-use Rattle.hf_base.specs.Located.{Located}
 use Rattle.hf_base.specs.Members.{IsIn, RisesFrom, Rises}
 use Rattle.hf_base.specs.Number.{num}
 use Rattle.hf_base.specs.declared.four.FourCc.{FourCc}
@@ -19,15 +18,14 @@ use Rattle.hf_box.specs.Walk.{is_kind}
 use Rattle.hf_box.proofs.SameKinds.{same_kind, is_same_kind}
 use Rattle.hf_box.proofs.Spelled.{length_spelling}
 use Rattle.hf_derived.specs.Derived.{fits}
-use Rattle.hf_head.specs.Ftyp.{Brands, IsFtyp}
+use Rattle.hf_head.specs.Ftyp.{Brands}
 use Rattle.hf_info.specs.Infe.{Info, IsGoodInfo}
 use Rattle.hf_info.proofs.IinfLemmas.{iinf_good}
 use Rattle.hf_links.specs.Grpl.{Group}
 use Rattle.hf_order.proofs.Members.{in_all, all_from, from_map}
 use Rattle.hf_prop.specs.Held.{Held}
-use Rattle.hf_prop.specs.declared.prop.Prop.{Prop}
 use Rattle.hf_store.specs.Derived.{inputs}
-use Rattle.hf_store.specs.References.{kinds_of, IsKept, joined}
+use Rattle.hf_store.specs.References.{IsKept}
 use Rattle.hf_store.specs.Store.{RefList, Item, ItemStore, ids_of}
 use Rattle.hf_store.specs.Table.{table_of}
 use Rattle.hf_store.specs.Valid.{HasBrand, AreGoodBrands, IsGoodRef, IsGoodItem, IsGoodGroup, Valid}
@@ -41,7 +39,7 @@ use Rattle.hf_read.proofs.ItemLaws.{ids_zip, items_zip, item_entry, body_is, pla
 use Rattle.hf_read.proofs.KeptGroups.{groups_rise, left_group, some_left, left_items}
 use Rattle.hf_read.proofs.KeptProps.{few_props, held_in, held_kind, table_few}
 use Rattle.hf_read.proofs.KeptRefs.{kind_box, list_kind, refs_are_kept, joined_passes}
-use Rattle.hf_read.proofs.ReadLaws.{IsRead, AreTables}
+use Rattle.hf_read.proofs.ReadLaws.{IsRead}
 use Rattle.hf_read.proofs.RecordParts.{link_kinds, IsGoodGroup as IsReadGroup, good_groups, distinct_groups, IsGoodIprp, good_iprp}
 use Rattle.hf_read.proofs.RisingLaws.{from_rising, rising_rises, above_zero}
 use Rattle.hf_read.proofs.StoreFaults.{each_fits, LeadToItems, walks_end, limits_kept}

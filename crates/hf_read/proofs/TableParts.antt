@@ -1,5 +1,5 @@
 -- The tables of `meta`, where a box may be missing: what is read of them is what stands in them.
-use Rattle.std.proofs.Common.{◌≡◌, ℕ, ◌+◌, ◌≤◌, List, [], ◌∷◌, Option, Some, None, Result, Ok, refl, sym, ap, subst, ◌∙◌, arith}
+use Rattle.std.proofs.Common.{◌≡◌, ◌≤◌, List, [], Option, Some, None, Ok, refl, sym, ap, subst, arith}
 use Rattle.hf_base.specs.Number.{IsBytes}
 use Rattle.hf_base.specs.ReadingLaws.{ok_is}
 use Rattle.hf_base.specs.declared.limits.TheConstants.{ROWS}

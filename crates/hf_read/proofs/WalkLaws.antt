@@ -1,8 +1,8 @@
 -- Walks along pairs of ids: the first id from which a walk of as many steps as there are ids exists is the least one from
 -- which a walk never ends.
-use Rattle.std.proofs.Common.{◌≡◌, ℕ, zero, suc, ◌+◌, ◌≤◌, ◌<◌, Bool, true, false, not, ◌&&◌, ◌||◌, eqb, List, [], ◌∷◌, length, map, Option, Some, None, refl, sym, ap, subst, ◌∙◌, arith, inl, inr, ◌⊎◌}
+use Rattle.std.proofs.Common.{◌≡◌, ℕ, zero, suc, ◌+◌, ◌≤◌, ◌<◌, Bool, true, false, ◌||◌, eqb, List, [], ◌∷◌, length, refl, sym, ap, subst, ◌∙◌, arith, inl, inr, ◌⊎◌}
 use Rattle.std.specs.Prelude.{slice_get}
-use Rattle.std.specs.List.{AllByRecursion, filter, list_any, list_all}
+use Rattle.std.specs.List.{filter}
 use Rattle.std.proofs.lemmas.Bool.{cases_Bool, eqb-true, eq-eqb}
 use Rattle.hf_base.specs.Entries.{has_id}
 use Rattle.hf_base.specs.Members.{IsIn, RisesFrom, Rises}
@@ -10,7 +10,7 @@ use Rattle.hf_order.specs.Order.{IsEndless, StartsEndless}
 use Rattle.hf_order.proofs.Members.{in_all, in_filter, has_in, in_has}
 use Rattle.hf_derived.specs.Cycle.{AreAmong, IsLeastCycle}
 use Rattle.hf_read.proofs.Filters.{passes, passed}
-use Rattle.hf_read.specs.Walks.{next_of, leads_to, walkers, first_walker}
+use Rattle.hf_read.specs.Walks.{leads_to, walkers, first_walker}
 
 -- ---- filters
 

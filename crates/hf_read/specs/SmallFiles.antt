@@ -1,5 +1,5 @@
 -- Small files, built box by box, so that each may have one thing wrong with it.
-use Rattle.std.specs.Prelude.{◌≡◌, ℕ, List, [], ◌++◌, Some, None, codes}
+use Rattle.std.specs.Prelude.{◌≡◌, ℕ, List, ◌++◌, Some, None, codes}
 use Prim.Native.String.{String}
 use Rattle.hf_base.specs.Number.{num}
 use Rattle.hf_base.specs.declared.fault.ReadRefusal.{ReadRefusal}

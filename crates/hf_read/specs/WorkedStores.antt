@@ -67,12 +67,12 @@ store_of_all =
     let less : Group = record { kind = four "altr"; version = 0; flags = 0; id = 10; entities = 1 ∷ []; tail = [] } in
     let tailed : Group = record { kind = four "altr"; version = 1; flags = 5; id = 12; entities = 1 ∷ 3 ∷ []; tail = codes "tail" } in
     store_of
-        (record picture { name = codes "pic"; props = size ∷ turn ∷ [] }
-        ∷ record text { hidden = true; name = codes "a"; content = codes "text/plain"; encoding = codes "gz" }
-        ∷ record link { uri = codes "u:x"; refs = references "cdsc" (2 ∷ []) ∷ references "thmb" (1 ∷ 4 ∷ []) ∷ [] }
-        ∷ record made { props = turn ∷ []; refs = references "dimg" (1 ∷ []) ∷ [] }
-        ∷ [])
-        (less ∷ tailed ∷ [])
+    (record picture { name = codes "pic"; props = size ∷ turn ∷ [] }
+    ∷ record text { hidden = true; name = codes "a"; content = codes "text/plain"; encoding = codes "gz" }
+    ∷ record link { uri = codes "u:x"; refs = references "cdsc" (2 ∷ []) ∷ references "thmb" (1 ∷ 4 ∷ []) ∷ [] }
+    ∷ record made { props = turn ∷ []; refs = references "dimg" (1 ∷ []) ∷ [] }
+    ∷ [])
+    (less ∷ tailed ∷ [])
 
 -- an item with so many references of this type, each to item 1
 abbrev pub linked : ℕ → String → ℕ → Item
