@@ -25,17 +25,17 @@ use Rattle.hf_store.proofs.Tables.{is_kind-is}
 
 -- ---- the order of types
 
-is_kind-self : (a : FourCc) → is_kind a a ≡ true
+pub is_kind-self : (a : FourCc) → is_kind a a ≡ true
 is_kind-self a = (bytes_eq-Decides a.0 a.0).1 refl
 
-below_irreflexive : (a : FourCc) → IsBelow a a → ⊥
+pub below_irreflexive : (a : FourCc) → IsBelow a a → ⊥
 below_irreflexive a e =
     let flipped : slice_cmp nat_cmp a.0 a.0 ≡ ordering_reverse (slice_cmp nat_cmp a.0 a.0) = nat_list_cmp_total.antisymm a.0 a.0 in
     let greater : ordering_reverse (slice_cmp nat_cmp a.0 a.0) ≡ Greater = ap ordering_reverse e in
     let both : Less ≡ Greater = sym e ∙ flipped ∙ greater in
     cc
 
-below_transitive : (a b c : FourCc) → IsBelow a b → IsBelow b c → IsBelow a c
+pub below_transitive : (a b c : FourCc) → IsBelow a b → IsBelow b c → IsBelow a c
 below_transitive a b c x y = nat_list_cmp_total.trans a.0 b.0 c.0 x y
 
 ordering_cases : (o : Ordering) → (o ≡ Less) ⊎ ((o ≡ Equal) ⊎ (o ≡ Greater))
@@ -43,7 +43,7 @@ ordering_cases Less = inl refl
 ordering_cases Equal = inr (inl refl)
 ordering_cases Greater = inr (inr refl)
 
-below_total : (a b : FourCc) → (a ≡ b) ⊎ (IsBelow a b ⊎ IsBelow b a)
+pub below_total : (a b : FourCc) → (a ≡ b) ⊎ (IsBelow a b ⊎ IsBelow b a)
 below_total a b =
     elim (ordering_cases (slice_cmp nat_cmp a.0 b.0)) [
       | inl less ↦ inr (inl less)

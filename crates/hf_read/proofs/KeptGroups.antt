@@ -1,0 +1,68 @@
+-- The groups that a store keeps: they rise by id, and have some entities, which are items.
+use Rattle.std.proofs.Common.{◌≡◌, ℕ, ◌<◌, Bool, true, false, not, ◌||◌, eqb, List, [], ◌∷◌, length, map, refl, sym, ap, subst, ◌∙◌, arith, inl, inr}
+use Rattle.std.specs.List.{filter}
+use Rattle.std.proofs.lemmas.Bool.{cases_Bool, and_parts}
+use Rattle.hf_base.specs.Entries.{has_id, are_distinct}
+use Rattle.hf_base.specs.Members.{IsIn, Rises}
+use Rattle.hf_links.specs.Grpl.{Group}
+use Rattle.hf_order.proofs.Members.{in_map, from_map, in_filter, in_has, has_not, not_has}
+use Rattle.hf_store.specs.Lists.{not_empty}
+use Rattle.hf_read.specs.Kept.{left_of, is_kept_group, kept_groups}
+use Rattle.hf_read.proofs.Filters.{passed}
+use Rattle.hf_read.proofs.RisingLaws.{from_rising, rising_rises}
+
+abbrev id_of : Group → ℕ
+id_of g = g.id
+
+-- ---- distinct ids
+
+not_true : (b : Bool) → not b ≡ true → b ≡ false
+not_true true e = absurd cc
+not_true false e = refl
+
+distinct_filter : (test : Group → Bool) (groups : List Group) → are_distinct (map id_of groups) ≡ true → are_distinct (map id_of (filter test groups)) ≡ true
+distinct_filter test [] distinct = refl
+distinct_filter test (g ∷ gs) distinct =
+    let p = and_parts (not (has_id g.id (map id_of gs))) (are_distinct (map id_of gs)) distinct in
+    let more = distinct_filter test gs p.1 in
+    elim (cases_Bool (test g)) [
+      | inl t ↦
+          let new : has_id g.id (map id_of (filter test gs)) ≡ false = has_not g.id (map id_of (filter test gs)) (λ h.
+          let m = from_map id_of (filter test gs) g.id h in
+          not_has g.id (map id_of gs) (not_true (has_id g.id (map id_of gs)) p.0) (subst (λ (n : ℕ). IsIn n (map id_of gs)) m.2 (in_map id_of gs m.0 (in_filter test gs m.0 m.1)))) in
+          let whole : filter test (g ∷ gs) ≡ g ∷ filter test gs = rw t refl in
+          subst (λ (l : List Group). are_distinct (map id_of l) ≡ true) (sym whole) (rw (new, more) refl)
+      | inr f ↦
+          let rest : filter test (g ∷ gs) ≡ filter test gs = rw f refl in
+          subst (λ (l : List Group). are_distinct (map id_of l) ≡ true) (sym rest) more
+    ]
+
+same_ids : (ids : List ℕ) (groups : List Group) → map id_of (map (left_of ids) groups) ≡ map id_of groups
+same_ids ids [] = refl
+same_ids ids (g ∷ gs) = ap (λ (l : List ℕ). g.id ∷ l) (same_ids ids gs)
+
+pub groups_rise : (ids : List ℕ) (groups : List Group) → are_distinct (map (λ (g : Group). g.id) groups) ≡ true → Rises ◌<◌ (map (λ (g : Group). g.id) (kept_groups ids groups))
+unfolding kept_groups
+groups_rise ids groups distinct =
+    rising_rises id_of (map (left_of ids) (filter (is_kept_group ids) groups)) (ap are_distinct (same_ids ids (filter (is_kept_group ids) groups)) ∙ distinct_filter (is_kept_group ids) groups distinct)
+
+-- ---- each group
+
+-- a group that is kept is what is left of one
+pub left_group : (ids : List ℕ) (groups : List Group) (g : Group) → IsIn g (kept_groups ids groups) → (whole : Group) × IsIn whole groups × (left_of ids whole ≡ g) × (is_kept_group ids whole ≡ true)
+unfolding kept_groups
+left_group ids groups g h =
+    let m = from_map (left_of ids) (filter (is_kept_group ids) groups) g (from_rising id_of (map (left_of ids) (filter (is_kept_group ids) groups)) g h) in
+    (m.0, in_filter (is_kept_group ids) groups m.0 m.1, m.2, passed (is_kept_group ids) groups m.0 m.1)
+
+some_length : (xs : List ℕ) → not_empty xs ≡ true → 0 < length xs
+some_length [] t = absurd cc
+some_length (x ∷ xs) t = omega arith
+
+pub some_left : (ids : List ℕ) (g : Group) → is_kept_group ids g ≡ true → 0 < length (left_of ids g).entities
+some_left ids g kept =
+    let p = and_parts (not_empty (left_of ids g).entities) ((eqb (length (left_of ids g).entities) (length g.entities)) || not (not_empty g.tail)) kept in
+    some_length (left_of ids g).entities p.0
+
+pub left_items : (ids : List ℕ) (g : Group) (id : ℕ) → IsIn id (left_of ids g).entities → IsIn id ids
+left_items ids g id h = in_has id ids (passed (λ x. has_id x ids) g.entities id h)

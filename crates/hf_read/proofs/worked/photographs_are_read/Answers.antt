@@ -1,0 +1,13 @@
+use Rattle.std.proofs.Common.{refl}
+use Rattle.hf_read.specs.WorkedFiles.{file_photograph, file_other_exif}
+use Rattle.hf_store.specs.WorkedStores.{photograph}
+use Rattle.hf_read.proofs.Opened.{reads}
+use Rattle.hf_read.proofs.worked.photographs_are_read.Goals as goal
+
+pub returns-clause-photograph : goal.returns-clause-photograph
+unfolding reads file_photograph photograph
+returns-clause-photograph c = refl
+
+pub returns-clause-other_exif : goal.returns-clause-other_exif
+unfolding reads file_other_exif
+returns-clause-other_exif c = refl

@@ -1,0 +1,83 @@
+-- Why a file is refused: the parts that are of no record. Each tells its fault for the least id that has it. Which they
+-- are, their order and the limits are this project's own rule.
+use Rattle.std.specs.Prelude.{ℕ, Bool, not, ◌&&◌, List, length, find, nat_lt, ◌==◌, Option, Result, option_map}
+use Rattle.std.specs.List.{list_any}
+use Rattle.hf_base.specs.Entries.{has_id, refuse_if}
+use Rattle.hf_base.specs.LocationFaults.{refused, limited}
+use Rattle.hf_base.specs.Reading.{◌>>=◌}
+use Rattle.hf_base.specs.declared.fault.ReadRefusal.{ReadRefusal}
+use Rattle.hf_base.specs.declared.fault.ReadRefusal.TheVariants.{NoPrimary, DanglingNeed, BadProperty, BadDerived, DeriveCycle, TooManyItems, TooManyLinks, MetaTooLong}
+use Rattle.hf_base.specs.declared.limits.TheConstants as limits
+use Rattle.hf_base.specs.declared.loc.RefBox.{RefBox}
+use Rattle.hf_derived.specs.Derived.{fits}
+use Rattle.hf_prop.specs.declared.assoc.Pick.{Pick}
+use Rattle.hf_prop.specs.declared.iprp.Iprp.{Iprp}
+use Rattle.hf_prop.specs.declared.prop.Prop.{Prop}
+use Rattle.hf_store.specs.Changes.{is_need}
+use Rattle.hf_store.specs.Derived.{inputs, input_pairs}
+use Rattle.hf_store.specs.Store.{RefList, Item, ItemStore, ids_of}
+use Rattle.hf_store.specs.Valid.{meta_len}
+use Rattle.hf_read.specs.Kept.{picks_of}
+use Rattle.hf_read.specs.Walks.{first_walker}
+
+-- ---- parts over the ids of the items, which rise
+
+-- the primary item is none of these
+unfoldable pub no_primary_fault : List ℕ → ℕ → Result (Unit {0}) ReadRefusal
+no_primary_fault ids primary = refuse_if (not (has_id primary ids)) (NoPrimary primary)
+
+-- references that the item needs, and one of them names no item
+abbrev pub is_dangling : List ℕ → ℕ → RefBox → Bool
+is_dangling ids id r = (r.from == id) && (is_need r.kind && list_any (λ to. not (has_id to ids)) r.to)
+
+unfoldable pub dangling_need_fault : List ℕ → List RefBox → Result (Unit {0}) ReadRefusal
+dangling_need_fault ids links = refused (λ id. DanglingNeed id) (find (λ id. list_any (is_dangling ids id) links) ids)
+
+-- an association is past the last property
+abbrev pub is_past : List Prop → Pick → Bool
+is_past props p = nat_lt (length props) p.index
+
+unfoldable pub bad_property_fault : List ℕ → Iprp → Result (Unit {0}) ReadRefusal
+bad_property_fault ids v = refused (λ id. BadProperty id) (find (λ id. list_any (is_past v.props) (picks_of id v.assocs)) ids)
+
+-- ---- parts over the items, whose ids rise
+
+abbrev pub first_item : (Item → Bool) → List Item → Option ℕ
+first_item has items = option_map (λ (i : Item). i.id) (find has items)
+
+-- the bytes do not fit the items that the item is made of
+abbrev pub is_misfit : Item → Bool
+is_misfit i = not (fits i.kind i.bytes (length (inputs i.refs)))
+
+unfoldable pub bad_derived_fault : List Item → Result (Unit {0}) ReadRefusal
+bad_derived_fault items = refused (λ id. BadDerived id) (first_item is_misfit items)
+
+-- the item is made of itself, or of one that is
+unfoldable pub derive_cycle_fault : List Item → Result (Unit {0}) ReadRefusal
+derive_cycle_fault items = refused (λ id. DeriveCycle id) (first_walker (input_pairs items) (ids_of items))
+
+unfoldable pub too_many_items_fault : List Item → Result (Unit {0}) ReadRefusal
+too_many_items_fault items = refuse_if (nat_lt limits.ITEMS (length items)) (TooManyItems (length items))
+
+-- a reference list has too many ids
+abbrev pub has_long_list : Item → Bool
+has_long_list i = list_any (λ (r : RefList). nat_lt limits.LINKS (length r.to)) i.refs
+
+unfoldable pub too_many_links_fault : List Item → Result (Unit {0}) ReadRefusal
+too_many_links_fault items = refused (λ id. TooManyLinks id) (first_item has_long_list items)
+
+unfoldable pub meta_too_long_fault : ItemStore → Result (Unit {0}) ReadRefusal
+meta_too_long_fault s = limited limits.META (λ size. MetaTooLong size) (meta_len s)
+
+-- ---- derived items, and then the limits of a store
+
+unfoldable pub derived_fault : List Item → Result (Unit {0}) ReadRefusal
+derived_fault items = do
+  fitting ← bad_derived_fault items
+  derive_cycle_fault items
+
+unfoldable pub limits_fault : ItemStore → Result (Unit {0}) ReadRefusal
+limits_fault s = do
+  count ← too_many_items_fault s.items
+  links ← too_many_links_fault s.items
+  meta_too_long_fault s

@@ -1,0 +1,13 @@
+pub mod Cuts
+pub mod Denotes
+pub mod Faults
+pub mod Kept
+pub mod Reading
+pub mod Rising
+pub mod SmallFiles
+pub mod Tables
+pub mod TopLevel
+pub mod Walks
+pub mod WorkedFiles
+pub mod WorkedStores
+pub mod WorkedTables

@@ -1,0 +1,8 @@
+//! What a file says of its items: the store that it denotes, or why it is refused.
+#![tactic(auto)]
+
+pub mod laws;
+pub mod limits;
+pub mod order;
+pub mod refused;
+pub mod worked;
