@@ -1,11 +1,12 @@
 -- The counts of lists and stores add up.
-use Rattle.std.proofs.Common.{◌≡◌, ℕ, zero, suc, ◌+◌, ◌<◌, ◌≤◌, List, [], ◌∷◌, ◌++◌, length, map, take, set, refl, sym, ap, ◌∙◌, arith, Some}
+use Rattle.std.proofs.Common.{◌≡◌, ℕ, zero, suc, ◌+◌, ◌<◌, ◌≤◌, List, [], ◌∷◌, ◌++◌, length, map, take, drop, set, refl, sym, ap, ◌∙◌, arith, Some}
 use Rattle.std.specs.Prelude.{slice_get}
 use Rattle.std.specs.List.{sum_by, remove, insert}
 use Rattle.std.proofs.lemmas.List.Sums.{sum_by-cons, sum_by-append, sum_by-remove, sum_by-insert, sum_by-set, sum_by_more}
-use Rattle.std.proofs.lemmas.List.{take_all}
+use Rattle.std.proofs.lemmas.List.{take_all, take-append-drop}
 use Rattle.hf_store.specs.Store.{Item, Group, ItemStore}
 use Rattle.hf_store.specs.Counts.{Counts, no_counts, plus, summed, counts_of_item, counts_of_group, counts_of_items, counts_of_groups, counts_of, counts_before, ItemGoes, ItemComes, ItemChanges, GroupGoes, GroupComes, GroupChanges}
+use Rattle.hf_store.specs.Offsets.{NoneBeforeTheFirst, OneMoreBeforeTheNext, AllBeforeTheEnd, RestIsBehind}
 use Rattle.hf_store.proofs.Spots.{at_or, within_at}
 
 -- ---- sums of counts
@@ -107,11 +108,17 @@ summed-plus f g (x ∷ xs) =
     summed-cons (λ y. plus (f y) (g y)) x xs ∙ ap (plus (plus (f x) (g x))) (summed-plus f g xs) ∙ plus-shuffle (f x) (g x) (summed f xs) (summed g xs) ∙ sym (ap (λ c. plus c (summed g (x ∷ xs))) (summed-cons f x xs) ∙ ap (plus (plus (f x) (summed f xs))) (summed-cons g x xs))
 
 -- those before the first place are none, and those before the end are all
-pub before-none : (is : List Item) → counts_before 0 is ≡ no_counts
-before-none is = refl
+pub none_before_the_first : NoneBeforeTheFirst
+none_before_the_first is = refl
 
-pub before-next : (is : List Item) (k : ℕ) (i : Item) → slice_get is k ≡ Some i → counts_before (k + 1) is ≡ plus (counts_before k is) (counts_of_item i)
-before-next is k i here = summed-next counts_of_item is k i here
+pub one_more_before_the_next : OneMoreBeforeTheNext
+one_more_before_the_next is k i here = summed-next counts_of_item is k i here
 
-pub before-all : (is : List Item) (k : ℕ) → length is ≤ k → counts_before k is ≡ counts_of_items is
-before-all is k past = ap counts_of_items (take_all k is past)
+pub all_before_the_end : AllBeforeTheEnd
+all_before_the_end is k past = ap counts_of_items (take_all k is past)
+
+pub rest_is_behind : RestIsBehind
+unfolding counts_of
+rest_is_behind s k =
+    let parts = sym (summed-append counts_of_item (take k s.items) (drop k s.items)) ∙ ap counts_of_items (take-append-drop k s.items) in
+    ap (λ c. plus c (counts_of_groups s.groups)) (sym parts) ∙ plus-assoc (counts_before k s.items) (counts_of_items (drop k s.items)) (counts_of_groups s.groups)

@@ -14,6 +14,7 @@ pub mod Lengths
 pub mod References
 pub mod Places
 pub mod Needers
+pub mod Offsets
 pub mod PlainLengths
 pub mod Reasons
 pub mod RefusedStores

@@ -1,5 +1,6 @@
 //! What is counted over a store. Each is the contract of a function that does nothing.
 
+ghost use Rattle.hf_store.specs.Offsets.{OffsetsAreCounted, NoneBeforeTheFirst, OneMoreBeforeTheNext, AllBeforeTheEnd, RestIsBehind};
 ghost use Rattle.hf_store.specs.Sizes.{SizesAreCounted, InfesAreCounted, LinksAreCounted, PropsAreCounted, GroupsAreCounted, ValidIsShort, ValidSizesAreCounted};
 ghost use Rattle.hf_store.specs.Counts.{CountsAreOfTheLayout, ItemGoes, ItemComes, ItemChanges, GroupGoes, GroupComes, GroupChanges};
 
@@ -39,4 +40,14 @@ pub fn short_sizes_are_counted()
 /// properties, and the bytes of their boxes.
 pub fn valid_sizes_are_counted()
     ensures { ValidSizesAreCounted }
+{}
+
+/// The offset that is written for each item follows from the counts of the items before it, which
+/// a loop over the items adds up.
+pub fn offsets_are_counted()
+    ensures offsets { OffsetsAreCounted }
+    ensures first { NoneBeforeTheFirst }
+    ensures next { OneMoreBeforeTheNext }
+    ensures end { AllBeforeTheEnd }
+    ensures rest { RestIsBehind }
 {}
