@@ -1,5 +1,5 @@
 -- The boxes inside others, where each has a header of eight bytes.
-use Rattle.std.proofs.Common.{◌≡◌, ℕ, zero, suc, ◌+◌, ◌*◌, ◌^◌, ◌<◌, ◌≤◌, Bool, true, false, cond, List, [], ◌∷◌, ◌++◌, length, length-append, map, refl, sym, ap, ◌∙◌, arith, subst}
+use Rattle.std.proofs.Common.{◌≡◌, ℕ, zero, suc, ◌+◌, ◌*◌, ◌^◌, ◌<◌, ◌≤◌, Bool, true, false, cond, List, [], ◌∷◌, ◌++◌, length, length-append, map, refl, sym, ap, ◌∙◌, arith, subst, inl, inr}
 use Rattle.std.specs.Prelude.{◌==◌, fold}
 use Rattle.std.specs.List.{AllByRecursion, sum_by, flat_map, list_any}
 use Rattle.std.proofs.Math.Dec.{eqb-suc-zero}
@@ -14,9 +14,9 @@ use Rattle.hf_box.specs.Written.{id_width}
 use Rattle.hf_info.specs.Infe.{infe_body, infe_box}
 use Rattle.hf_links.specs.Grpl.{group_body, group_box}
 use Rattle.hf_links.specs.Iref.{reference_body, reference_box}
-use Rattle.hf_store.specs.Counts.{strings_of, targets_of, counts_of}
+use Rattle.hf_store.specs.Counts.{Counts, strings_of, targets_of, counts_of}
 use Rattle.hf_store.specs.Layout.{own, is_wide, info_of, item_boxes, all_boxes}
-use Rattle.hf_store.specs.Sizes.{Inner, infes_size, links_size, props_size, groups_size, inner_of, short_props, short_infes, short_links, short_groups, short_inner, ipma_size, AreSizes, IsShortItem, IsShortList, IsShortProp, IsShortGroup, InfesAreCounted, LinksAreCounted, PropsAreCounted, GroupsAreCounted, ValidIsShort, ValidSizesAreCounted}
+use Rattle.hf_store.specs.Sizes.{Inner, infes_size, links_size, props_size, groups_size, inner_of, short_props, short_infes, short_links, short_groups, short_inner, ipma_size, meta_size_by, AreSizes, IsShortItem, IsShortList, IsShortProp, IsShortGroup, InfesAreCounted, LinksAreCounted, PropsAreCounted, GroupsAreCounted, AreFours, counted_inner, counted_meta, MetaIsCounted, ValidSizesAreCounted}
 use Rattle.hf_store.specs.Store.{Prop, Held, RefList, Item, Group, ItemStore}
 use Rattle.hf_store.specs.Table.{same_prop, props_of, with_prop, table_of}
 use Rattle.hf_store.specs.Valid.{IsFour, IsGoodRef, IsGoodItem, IsGoodGroup, meta_len, Valid}
@@ -45,14 +45,13 @@ infe-short wide i short =
     let fits : 8 + (10 + id_width wide + strings_of i) < 256 ^ 4 = omega (arith, short.1, le-width wide) in
     length-box (four "infe") (infe_body wide (info_of i)) refl ∙ ap box_len body ∙ box_len-short _ fits ∙ omega arith
 
-few_links : (wide : Bool) (n : ℕ) → n ≤ limits.LINKS → n * id_width wide ≤ 65535 * 4
+few_links : (wide : Bool) (n : ℕ) → 14 + n * 4 < 256 ^ 4 → 8 + (id_width wide + 2 + n * id_width wide) < 256 ^ 4
 few_links true n few = omega (arith, few)
 few_links false n few = omega (arith, few)
 
 pub link-short : (wide : Bool) (from : ℕ) (r : RefList) → IsShortList r → length (box r.kind (reference_body wide from r.to)) ≡ 10 + id_width wide + length r.to * id_width wide
 link-short wide from r short =
-    let fits : 8 + (id_width wide + 2 + length r.to * id_width wide) < 256 ^ 4 = omega (arith, few_links wide (length r.to) short.1, le-width wide) in
-    length-box r.kind (reference_body wide from r.to) short.0 ∙ ap box_len (length-reference_body wide from r.to) ∙ box_len-short _ fits ∙ omega arith
+    length-box r.kind (reference_body wide from r.to) short.0 ∙ ap box_len (length-reference_body wide from r.to) ∙ box_len-short _ (few_links wide (length r.to) short.1) ∙ omega arith
 
 pub group_body-size : (g : Group) → length (group_body g) ≡ 12 + length g.entities * 4 + length g.tail
 unfolding group_body
@@ -90,13 +89,15 @@ links_of_one wide from (r ∷ rs) short =
     let targets : targets_of (r ∷ rs) * id_width wide ≡ (length r.to + targets_of rs) * id_width wide = ap (λ n. n * id_width wide) (sum_by-cons (λ (q : RefList). length q.to) r rs) in
     omega (arith, size, targets, link-short wide from r short.0, links_of_one wide from rs short.1)
 
+links_size-cons : (wide : Bool) (i : Item) (is : List Item) → links_size wide (i ∷ is) ≡ sum_by (λ (r : RefList). length (box r.kind (reference_body wide i.id r.to))) i.refs + links_size wide is
+links_size-cons wide i is =
+    sum_by-append (λ (b : RefBox). length (reference_box wide b)) (item_boxes i.id i.refs) (all_boxes is) ∙ ap (λ n. n + links_size wide is) (sum-map (λ (b : RefBox). length (reference_box wide b)) (λ (r : RefList). record { kind = r.kind; from = i.id; to = r.to }) i.refs)
+
 links_sum : (wide : Bool) (is : List Item) → AllByRecursion (λ (i : Item). AllByRecursion IsShortList i.refs) is
     → links_size wide is ≡ sum_by (λ (i : Item). length i.refs) is * (10 + id_width wide) + sum_by (λ (i : Item). targets_of i.refs) is * id_width wide
 links_sum wide [] short = omega arith
 links_sum wide (i ∷ is) short =
-    let size : links_size wide (i ∷ is) ≡ sum_by (λ (r : RefList). length (box r.kind (reference_body wide i.id r.to))) i.refs + links_size wide is =
-    sum_by-append (λ (b : RefBox). length (reference_box wide b)) (item_boxes i.id i.refs) (all_boxes is) ∙ ap (λ n. n + links_size wide is) (sum-map (λ (b : RefBox). length (reference_box wide b)) (λ (r : RefList). record { kind = r.kind; from = i.id; to = r.to }) i.refs)
-    in
+    let size = links_size-cons wide i is in
     let links = ap (λ n. n * (10 + id_width wide)) (sum_by-cons (λ (j : Item). length j.refs) i is) in
     let targets = ap (λ n. n * id_width wide) (sum_by-cons (λ (j : Item). targets_of j.refs) i is) in
     omega (arith, size, links, targets, links_of_one wide i.id i.refs short.0, links_sum wide is short.1)
@@ -124,7 +125,7 @@ pub groups_are_counted : GroupsAreCounted
 unfolding counts_of
 groups_are_counted s short = omega (arith, groups_sum s.groups short, sum-zero s.items, sum-one s.groups)
 
--- ---- valid stores
+-- ---- all boxes are short where they are few bytes
 
 -- what holds of each where the sum of all has a bound
 all_below : {A : Type 0} (f : A → ℕ) (Q P : A → Type 0) (top : ℕ) (xs : List A) → AllByRecursion Q xs → sum_by f xs ≤ top → ((x : A) → Q x → f x ≤ top → P x) → AllByRecursion P xs
@@ -133,9 +134,72 @@ all_below f Q P top (x ∷ xs) good sum each =
     let both = sum_by-cons f x xs in
     (each x good.0 (omega (arith, both, sum)), all_below f Q P top xs good.1 (omega (arith, both, sum)) each)
 
-all_of : {A : Type 0} (Q P : A → Type 0) (xs : List A) → AllByRecursion Q xs → ((x : A) → Q x → P x) → AllByRecursion P xs
-all_of Q P [] good each = tt
-all_of Q P (x ∷ xs) good each = (each x good.0, all_of Q P xs good.1 each)
+pub infes_are_short : (s : ItemStore) → AllByRecursion (λ (i : Item). IsFour i.kind) s.items → 22 + (counts_of s).strings < 256 ^ 4 → AllByRecursion IsShortItem s.items
+unfolding counts_of
+infes_are_short s fours few =
+    all_below strings_of (λ (i : Item). IsFour i.kind) IsShortItem (sum_by strings_of s.items) s.items fours (omega arith) (λ i kind le. (kind, omega (arith, le, few)))
+
+pub links_are_short : (s : ItemStore) → AllByRecursion (λ (i : Item). AllByRecursion (λ (r : RefList). IsFour r.kind) i.refs) s.items → 14 + (counts_of s).targets * 4 < 256 ^ 4
+    → AllByRecursion (λ (i : Item). AllByRecursion IsShortList i.refs) s.items
+unfolding counts_of
+links_are_short s fours few =
+    let top = sum_by (λ (i : Item). targets_of i.refs) s.items in
+    all_below (λ (i : Item). targets_of i.refs) (λ (i : Item). AllByRecursion (λ (r : RefList). IsFour r.kind) i.refs) (λ (i : Item). AllByRecursion IsShortList i.refs) top s.items fours (omega arith)
+    (λ i kinds le. all_below (λ (r : RefList). length r.to) (λ (r : RefList). IsFour r.kind) IsShortList top i.refs kinds le (λ r kind less. (kind, omega (arith, less, few))))
+
+pub props_are_short : (ps : List Prop) → AllByRecursion (λ (p : Prop). IsFour p.kind) ps → short_props ps < 256 ^ 4 → AllByRecursion IsShortProp ps
+props_are_short ps fours few = all_below (λ (p : Prop). 8 + length p.body) (λ (p : Prop). IsFour p.kind) IsShortProp (short_props ps) ps fours (omega arith) (λ p kind le. (kind, omega (arith, le, few)))
+
+abbrev group_bytes : Group → ℕ
+group_bytes g = 20 + length g.entities * 4 + length g.tail
+
+group_bytes-sum : (gs : List Group) → sum_by group_bytes gs ≡ length gs * 20 + sum_by (λ (g : Group). length g.entities) gs * 4 + sum_by (λ (g : Group). length g.tail) gs
+group_bytes-sum [] = omega arith
+group_bytes-sum (g ∷ gs) =
+    omega (arith, sum_by-cons group_bytes g gs, sum_by-cons (λ (h : Group). length h.entities) g gs, sum_by-cons (λ (h : Group). length h.tail) g gs, group_bytes-sum gs)
+
+pub groups_are_short : (s : ItemStore) → AllByRecursion (λ (g : Group). IsFour g.kind) s.groups → short_groups (counts_of s) < 256 ^ 4 → AllByRecursion IsShortGroup s.groups
+unfolding counts_of
+groups_are_short s fours few =
+    let sum = group_bytes-sum s.groups in
+    all_below group_bytes (λ (g : Group). IsFour g.kind) IsShortGroup (sum_by group_bytes s.groups) s.groups fours (omega arith) (λ g kind le. (kind, omega (arith, le, few, sum, sum-zero s.items, sum-one s.groups)))
+
+-- ---- the same by the boxes as they are laid
+
+infes_fit : (wide : Bool) (is : List Item) (top : ℕ) → AllByRecursion (λ (i : Item). IsFour i.kind) is → infes_size wide is ≤ top → 4 + top < 256 ^ 4 → AllByRecursion IsShortItem is
+infes_fit wide is top fours sum small =
+    all_below (λ (i : Item). length (infe_box wide (info_of i))) (λ (i : Item). IsFour i.kind) IsShortItem top is fours sum
+    (λ i kind le. (kind, omega (arith, le, small, length-box (four "infe") (infe_body wide (info_of i)) refl, le-box_len (length (infe_body wide (info_of i))), infe_body-size wide i kind, ge-width wide)))
+
+-- twice what stands in a reference box has room for ids of four bytes
+twice : (wide : Bool) (n : ℕ) → n * 4 ≤ 2 * (n * id_width wide)
+twice true n = omega arith
+twice false n = omega arith
+
+link_fits : (wide : Bool) (from : ℕ) (r : RefList) (top : ℕ) → IsFour r.kind → length (box r.kind (reference_body wide from r.to)) ≤ top → 14 + 2 * top < 256 ^ 4 → IsShortList r
+link_fits wide from r top kind le small =
+    (kind, omega (arith, le, small, length-box r.kind (reference_body wide from r.to) kind, le-box_len (length (reference_body wide from r.to)), length-reference_body wide from r.to, twice wide (length r.to)))
+
+links_fit : (wide : Bool) (is : List Item) (top : ℕ) → AllByRecursion (λ (i : Item). AllByRecursion (λ (r : RefList). IsFour r.kind) i.refs) is → links_size wide is ≤ top → 14 + 2 * top < 256 ^ 4
+    → AllByRecursion (λ (i : Item). AllByRecursion IsShortList i.refs) is
+links_fit wide [] top fours sum small = tt
+links_fit wide (i ∷ is) top fours sum small =
+    let size = links_size-cons wide i is in
+    (
+      all_below (λ (r : RefList). length (box r.kind (reference_body wide i.id r.to))) (λ (r : RefList). IsFour r.kind) IsShortList top i.refs fours.0 (omega (arith, size, sum)) (λ r kind le. link_fits wide i.id r top kind le small),
+      links_fit wide is top fours.1 (omega (arith, size, sum)) small,
+    )
+
+props_fit : (ps : List Prop) (top : ℕ) → AllByRecursion (λ (p : Prop). IsFour p.kind) ps → props_size ps ≤ top → top < 256 ^ 4 → AllByRecursion IsShortProp ps
+props_fit ps top fours sum small =
+    all_below (λ (p : Prop). length (box p.kind p.body)) (λ (p : Prop). IsFour p.kind) IsShortProp top ps fours sum (λ p kind le. (kind, omega (arith, le, small, length-box p.kind p.body kind, le-box_len (length p.body))))
+
+groups_fit : (gs : List Group) (top : ℕ) → AllByRecursion (λ (g : Group). IsFour g.kind) gs → groups_size gs ≤ top → top < 256 ^ 4 → AllByRecursion IsShortGroup gs
+groups_fit gs top fours sum small =
+    all_below (λ (g : Group). length (group_box g)) (λ (g : Group). IsFour g.kind) IsShortGroup top gs fours sum
+    (λ g kind le. (kind, omega (arith, le, small, length-box g.kind (group_body g) kind, le-box_len (length (group_body g)), group_body-size g)))
+
+-- ---- types
 
 all_append : {A : Type 0} (P : A → Type 0) (xs ys : List A) → AllByRecursion P xs → AllByRecursion P ys → AllByRecursion P (xs ++ ys)
 all_append P [] ys some more = more
@@ -156,69 +220,143 @@ four_held : (hs : List Held) → AllByRecursion (λ (h : Held). IsFour h.prop.ki
 four_held [] fours = tt
 four_held (h ∷ hs) fours = (fours.0, four_held hs fours.1)
 
-four_props : (all is : List Item) → AllByRecursion (IsGoodItem all) is → AllByRecursion FourProp (flat_map props_of is)
-four_props all [] good = tt
-four_props all (i ∷ is) good = all_append FourProp (props_of i) (flat_map props_of is) (four_held i.props good.0.prop_kinds) (four_props all is good.1)
+four_props : (is : List Item) → AllByRecursion (λ (i : Item). AllByRecursion (λ (h : Held). IsFour h.prop.kind) i.props) is → AllByRecursion FourProp (flat_map props_of is)
+four_props [] fours = tt
+four_props (i ∷ is) fours = all_append FourProp (props_of i) (flat_map props_of is) (four_held i.props fours.0) (four_props is fours.1)
 
-pub four_table : (s : ItemStore) → AllByRecursion (IsGoodItem s.items) s.items → AllByRecursion FourProp (table_of s)
+pub four_table : (s : ItemStore) → AreFours s → AllByRecursion FourProp (table_of s)
 unfolding table_of
-four_table s good = four_folded [] (flat_map props_of s.items) tt (four_props s.items s.items good)
+four_table s fours = four_folded [] (flat_map props_of s.items) tt (four_props s.items fours.props)
 
-groups-le : (gs : List Group) → groups_size gs ≤ cond (length gs == 0) 0 (box_len (groups_size gs))
-groups-le [] = omega arith
-groups-le (g ∷ gs) =
-    let size = groups_size (g ∷ gs) in
-    subst (λ (b : Bool). size ≤ cond b 0 (box_len size)) (sym (eqb-suc-zero (length gs))) (omega (arith, le-box_len size))
+all_of : {A : Type 0} (Q P : A → Type 0) (xs : List A) → AllByRecursion Q xs → ((x : A) → Q x → P x) → AllByRecursion P xs
+all_of Q P [] good each = tt
+all_of Q P (x ∷ xs) good each = (each x good.0, all_of Q P xs good.1 each)
+
+pub valid_fours : (s : ItemStore) → Valid s → AreFours s
+valid_fours s valid = record {
+  items = all_of (IsGoodItem s.items) (λ (i : Item). IsFour i.kind) s.items valid.items (λ i good. good.kind);
+  lists = all_of (IsGoodItem s.items) (λ (i : Item). AllByRecursion (λ (r : RefList). IsFour r.kind) i.refs) s.items valid.items (λ i good. all_of (IsGoodRef s.items) (λ (r : RefList). IsFour r.kind) i.refs good.refs (λ r ref. ref.kind));
+  props = all_of (IsGoodItem s.items) (λ (i : Item). AllByRecursion (λ (h : Held). IsFour h.prop.kind) i.props) s.items valid.items (λ i good. good.prop_kinds);
+  groups = all_of (IsGoodGroup s.items) (λ (g : Group). IsFour g.kind) s.groups valid.groups (λ g good. good.kind);
+}
+
+-- ---- meta
 
 box_holds : (total n : ℕ) → total ≡ box_len n → n ≤ total
 box_holds total n e = omega (arith, e, le-box_len n)
 
--- the inner boxes are no longer than `meta`
-record AreBelow (s : ItemStore) (top : ℕ) : Type 0 where
-  infes : infes_size (is_wide s.items) s.items ≤ top
-  props : props_size (table_of s) ≤ top
-  groups : groups_size s.groups ≤ top
+-- what stands in a box that is absent where nothing is listed
+le-if_any : (count n body : ℕ) → n ≤ body → (count ≡ 0 → n ≡ 0) → n ≤ cond (count == 0) 0 (box_len body)
+le-if_any zero n body le none = omega (arith, none refl)
+le-if_any (suc count) n body le none = subst (λ (b : Bool). n ≤ cond b 0 (box_len body)) (sym (eqb-suc-zero count)) (omega (arith, le, le-box_len body))
 
-inner-below : (s : ItemStore) → AreBelow s (meta_len s)
-unfolding inner_of meta_len
-inner-below s =
-    let wide = is_wide s.items in
-    let c = counts_of s in
-    let meta = box_holds _ _ (meta-counted s own 8 0) in
-    let iinf = le-box_len (4 + id_width wide + infes_size wide s.items) in
-    let ipco = le-box_len (props_size (table_of s)) in
-    let iprp = le-box_len (box_len (props_size (table_of s)) + ipma_size wide (length (table_of s)) c) in
-    let groups : groups_size s.groups ≤ cond (c.groups == 0) 0 (box_len (groups_size s.groups)) = subst (λ (n : ℕ). groups_size s.groups ≤ cond (n == 0) 0 (box_len (groups_size s.groups))) (sym (counts_are s).groups) (groups-le s.groups) in
+-- the boxes inside others are no longer than `meta`
+record AreWithin (inner : Inner) (top : ℕ) : Type 0 where
+  infes : inner.infes ≤ top
+  links : inner.links ≤ top
+  props : inner.props ≤ top
+  groups : inner.groups ≤ top
+
+within-meta : (wide : Bool) (n : ℕ) (c : Counts) (b : Inner) (total : ℕ) → total ≡ meta_size_by wide 8 n c b → (c.links ≡ 0 → b.links ≡ 0) → (c.groups ≡ 0 → b.groups ≡ 0) → AreWithin b total
+within-meta wide n c b total is no_links no_groups =
+    let meta = box_holds total _ is in
+    let iinf = le-box_len (4 + id_width wide + b.infes) in
+    let iref = le-if_any c.links b.links (4 + b.links) (omega arith) no_links in
+    let ipco = le-box_len b.props in
+    let iprp = le-box_len (box_len b.props + ipma_size wide n c) in
+    let grpl = le-if_any c.groups b.groups b.groups (omega arith) no_groups in
     record {
       infes = omega (arith, meta, iinf);
+      links = omega (arith, meta, iref);
       props = omega (arith, meta, ipco, iprp);
-      groups = omega (arith, meta, groups);
+      groups = omega (arith, meta, grpl);
     }
 
-short_item : (all : List Item) (wide : Bool) (i : Item) → IsGoodItem all i → length (infe_box wide (info_of i)) ≤ limits.META → IsShortItem i
-short_item all wide i good small =
-    (good.kind, omega (arith, small, length-box (four "infe") (infe_body wide (info_of i)) refl, le-box_len (length (infe_body wide (info_of i))), infe_body-size wide i good.kind, ge-width wide))
+-- ---- nothing where nothing is listed
 
-short_group : (all : List Item) (g : Group) → IsGoodGroup all g → length (group_box g) ≤ limits.META → IsShortGroup g
-short_group all g good small = (good.kind, omega (arith, small, length-box g.kind (group_body g) good.kind, le-box_len (length (group_body g)), group_body-size g))
+sum-none : {A : Type 0} (f : A → ℕ) (xs : List A) → length xs ≡ 0 → sum_by f xs ≡ 0
+sum-none f [] none = refl
+sum-none f (x ∷ xs) none = absurd (omega (arith, none))
 
-short_prop : (p : Prop) → IsFour p.kind → length (box p.kind p.body) ≤ limits.META → IsShortProp p
-short_prop p kind small = (kind, omega (arith, small, length-box p.kind p.body kind, le-box_len (length p.body)))
+no_targets : (is : List Item) → sum_by (λ (i : Item). length i.refs) is ≡ 0 → sum_by (λ (i : Item). targets_of i.refs) is ≡ 0
+no_targets [] none = refl
+no_targets (i ∷ is) none =
+    let links = sum_by-cons (λ (j : Item). length j.refs) i is in
+    omega (arith, sum_by-cons (λ (j : Item). targets_of j.refs) i is, sum-none (λ (r : RefList). length r.to) i.refs (omega (arith, links, none)), no_targets is (omega (arith, links, none)))
 
-short_lists : (all : List Item) (i : Item) → IsGoodItem all i → AllByRecursion IsShortList i.refs
-short_lists all i good = all_of (IsGoodRef all) IsShortList i.refs good.refs (λ r ref. (ref.kind, ref.links))
+no_links-laid : (s : ItemStore) (wide : Bool) → (counts_of s).links ≡ 0 → links_size wide s.items ≡ 0
+no_links-laid s wide none = sum-none (λ (b : RefBox). length (reference_box wide b)) (all_boxes s.items) (omega (arith, none, (counts_are s).links))
 
-pub valid_is_short : ValidIsShort
+no_groups-laid : (s : ItemStore) → (counts_of s).groups ≡ 0 → groups_size s.groups ≡ 0
+no_groups-laid s none = sum-none (λ (g : Group). length (group_box g)) s.groups (omega (arith, none, (counts_are s).groups))
+
+no_links-counted : (s : ItemStore) (wide : Bool) → (counts_of s).links ≡ 0 → short_links wide (counts_of s) ≡ 0
+unfolding counts_of
+no_links-counted s wide none =
+    let zero_sum = sum-zero s.groups in
+    let targets : sum_by (λ (i : Item). targets_of i.refs) s.items + sum_by (λ (g : Group). 0) s.groups ≡ 0 = omega (arith, zero_sum, no_targets s.items (omega (arith, none))) in
+    ap (λ n. n * (10 + id_width wide) + (counts_of s).targets * id_width wide) none ∙ ap (λ n. 0 * (10 + id_width wide) + n * id_width wide) targets ∙ omega arith
+
+no_groups-counted : (s : ItemStore) → (counts_of s).groups ≡ 0 → short_groups (counts_of s) ≡ 0
+unfolding counts_of
+no_groups-counted s none =
+    let empty : length s.groups ≡ 0 = omega (arith, none, sum-zero s.items, sum-one s.groups) in
+    omega (arith, none, sum-zero s.items, sum-none (λ (g : Group). length g.entities) s.groups empty, sum-none (λ (g : Group). length g.tail) s.groups empty)
+
+-- ---- the whole
+
+-- the boxes inside others are short
+record AreShort (s : ItemStore) : Type 0 where
+  infes : AllByRecursion IsShortItem s.items
+  links : AllByRecursion (λ (i : Item). AllByRecursion IsShortList i.refs) s.items
+  props : AllByRecursion IsShortProp (table_of s)
+  groups : AllByRecursion IsShortGroup s.groups
+
+inner_is_counted : (s : ItemStore) → AreShort s → inner_of s ≡ counted_inner s
 unfolding inner_of
-valid_is_short s valid =
+inner_is_counted s short =
     let wide = is_wide s.items in
-    let below = inner-below s in
-    let infes = infes_are_counted s wide (all_below (λ (i : Item). length (infe_box wide (info_of i))) (IsGoodItem s.items) IsShortItem limits.META s.items valid.items (omega (arith, below.infes, valid.meta)) (short_item s.items wide)) in
-    let links = links_are_counted s wide (all_of (IsGoodItem s.items) (λ (i : Item). AllByRecursion IsShortList i.refs) s.items valid.items (short_lists s.items)) in
-    let props = props_are_counted (table_of s) (all_below (λ (p : Prop). length (box p.kind p.body)) FourProp IsShortProp limits.META (table_of s) (four_table s valid.items) (omega (arith, below.props, valid.meta)) short_prop) in
-    let groups = groups_are_counted s (all_below (λ (g : Group). length (group_box g)) (IsGoodGroup s.items) IsShortGroup limits.META s.groups valid.groups (omega (arith, below.groups, valid.meta)) (short_group s.items)) in
-    rw (infes, links, props, groups) refl
+    rw (infes_are_counted s wide short.infes, links_are_counted s wide short.links, props_are_counted (table_of s) short.props, groups_are_counted s short.groups) refl
+
+short_as_laid : (s : ItemStore) → AreFours s → meta_len s ≤ limits.META → AreShort s
+unfolding inner_of meta_len
+short_as_laid s fours small =
+    let wide = is_wide s.items in
+    let within = within-meta wide (length (table_of s)) (counts_of s) (inner_of s) (meta_len s) (meta-counted s own 8 0) (no_links-laid s wide) (no_groups-laid s) in
+    record {
+      infes = infes_fit wide s.items limits.META fours.items (omega (arith, within.infes, small)) (omega arith);
+      links = links_fit wide s.items limits.META fours.lists (omega (arith, within.links, small)) (omega arith);
+      props = props_fit (table_of s) limits.META (four_table s fours) (omega (arith, within.props, small)) (omega arith);
+      groups = groups_fit s.groups limits.META fours.groups (omega (arith, within.groups, small)) (omega arith);
+    }
+
+few_targets : (wide : Bool) (links targets : ℕ) → links * (10 + id_width wide) + targets * id_width wide ≤ limits.META → 14 + targets * 4 < 256 ^ 4
+few_targets true links targets few = omega (arith, few)
+few_targets false links targets few = omega (arith, few)
+
+short_as_counted : (s : ItemStore) → AreFours s → counted_meta s ≤ limits.META → AreShort s
+short_as_counted s fours small =
+    let wide = is_wide s.items in
+    let c = counts_of s in
+    let within = within-meta wide (length (table_of s)) c (counted_inner s) (counted_meta s) refl (no_links-counted s wide) (no_groups-counted s) in
+    record {
+      infes = infes_are_short s fours.items (omega (arith, within.infes, small));
+      links = links_are_short s fours.lists (few_targets wide c.links c.targets (omega (arith, within.links, small)));
+      props = props_are_short (table_of s) (four_table s fours) (omega (arith, within.props, small));
+      groups = groups_are_short s fours.groups (omega (arith, within.groups, small));
+    }
+
+meta_where_short : (s : ItemStore) → AreShort s → (inner_of s ≡ counted_inner s) × (meta_len s ≡ counted_meta s)
+unfolding meta_len
+meta_where_short s short =
+    let inner = inner_is_counted s short in
+    (inner, meta-counted s own 8 0 ∙ ap (λ (b : Inner). meta_size_by (is_wide s.items) 8 (length (table_of s)) (counts_of s) b) inner)
+
+pub meta_is_counted : MetaIsCounted
+meta_is_counted s fours (inl small) = meta_where_short s (short_as_laid s fours small)
+meta_is_counted s fours (inr small) = meta_where_short s (short_as_counted s fours small)
 
 pub valid_sizes_are_counted : ValidSizesAreCounted
 valid_sizes_are_counted s valid =
-    subst (λ (b : Inner). AreSizes s (is_wide s.items) (length (table_of s)) (counts_of s) b) (valid_is_short s valid) (sizes_are_counted s)
+    let inner = (meta_is_counted s (valid_fours s valid) (inl valid.meta)).0 in
+    subst (λ (b : Inner). AreSizes s (is_wide s.items) (length (table_of s)) (counts_of s) b) inner (sizes_are_counted s)

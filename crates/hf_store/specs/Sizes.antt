@@ -1,5 +1,5 @@
 -- How long the boxes of a canonical file are, told by counts.
-use Rattle.std.specs.Prelude.{◌≡◌, ◌+◌, ◌-◌, ◌*◌, ◌^◌, ◌<◌, ◌≤◌, ◌==◌, ℕ, Bool, List, length, filter, slice_get, Some, nat_lt, if◌then◌else◌}
+use Rattle.std.specs.Prelude.{◌≡◌, ◌⊎◌, ◌+◌, ◌*◌, ◌^◌, ◌<◌, ◌≤◌, ◌==◌, ℕ, Bool, List, length, filter, slice_get, Some, nat_lt, if◌then◌else◌}
 use Rattle.std.specs.List.{AllByRecursion, sum_by}
 use Rattle.hf_base.specs.declared.limits.TheConstants as limits
 use Rattle.hf_base.specs.declared.loc.RefBox.{RefBox}
@@ -16,10 +16,9 @@ use Rattle.hf_prop.specs.Ipma.{ipma_body}
 use Rattle.hf_prop.specs.Iprp.{is_long_table, ipco_body, iprp_body}
 use Rattle.hf_store.specs.Counts.{Counts, strings_of, counts_of, counts_of_items, counts_before}
 use Rattle.hf_store.specs.Layout.{Homes, own, is_wide, info_of, infos_of, all_boxes, assocs_of, iprp_of, in_idat, bytes_in, entries_of, offset_of, box_if_any, mdat_body, meta_body, laid}
-use Rattle.hf_store.specs.Lists.{RisesFrom}
-use Rattle.hf_store.specs.Store.{Prop, RefList, Item, Group, ItemStore, ids_of}
+use Rattle.hf_store.specs.Store.{Prop, Held, RefList, Item, Group, ItemStore, ids_of}
 use Rattle.hf_store.specs.Table.{table_of}
-use Rattle.hf_store.specs.Valid.{IsFour, Valid}
+use Rattle.hf_store.specs.Valid.{IsFour, meta_len, Valid}
 
 -- ---- the boxes inside others
 
@@ -147,7 +146,7 @@ abbrev pub IsShortItem : Item → Type 0
 IsShortItem i = IsFour i.kind × (22 + strings_of i < 256 ^ 4)
 
 abbrev pub IsShortList : RefList → Type 0
-IsShortList r = IsFour r.kind × (length r.to ≤ limits.LINKS)
+IsShortList r = IsFour r.kind × (14 + length r.to * 4 < 256 ^ 4)
 
 abbrev pub IsShortProp : Prop → Type 0
 IsShortProp p = IsFour p.kind × (8 + length p.body < 256 ^ 4)
@@ -168,11 +167,26 @@ PropsAreCounted = (ps : List Prop) → AllByRecursion IsShortProp ps → props_s
 abbrev pub GroupsAreCounted : Type 0
 GroupsAreCounted = (s : ItemStore) → AllByRecursion IsShortGroup s.groups → groups_size s.groups ≡ short_groups (counts_of s)
 
--- in a valid store all of them are short
-abbrev pub ValidIsShort : Type 0
-ValidIsShort = (s : ItemStore) → Valid s → inner_of s ≡ short_inner (is_wide s.items) (short_props (table_of s)) (counts_of s)
+-- the types of items, references, properties and groups have four bytes
+pub record AreFours (s : ItemStore) : Type 0 where
+  pub items : AllByRecursion (λ (i : Item). IsFour i.kind) s.items
+  pub lists : AllByRecursion (λ (i : Item). AllByRecursion (λ (r : RefList). IsFour r.kind) i.refs) s.items
+  pub props : AllByRecursion (λ (i : Item). AllByRecursion (λ (h : Held). IsFour h.prop.kind) i.props) s.items
+  pub groups : AllByRecursion (λ (g : Group). IsFour g.kind) s.groups
 
--- so that all lengths follow from the counts, the number of distinct properties, and the bytes of their boxes
+-- those of a store, by its counts
+abbrev pub counted_inner : ItemStore → Inner
+counted_inner s = short_inner (is_wide s.items) (short_props (table_of s)) (counts_of s)
+
+-- and the length of its `meta` with offsets of eight bytes
+abbrev pub counted_meta : ItemStore → ℕ
+counted_meta s = meta_size_by (is_wide s.items) 8 (length (table_of s)) (counts_of s) (counted_inner s)
+
+-- where `meta` is within its limit, as it is or by the counts, all of them are short, and so it is both or neither
+abbrev pub MetaIsCounted : Type 0
+MetaIsCounted = (s : ItemStore) → AreFours s → (meta_len s ≤ limits.META) ⊎ (counted_meta s ≤ limits.META) → (inner_of s ≡ counted_inner s) × (meta_len s ≡ counted_meta s)
+
+-- as in each valid store, all of whose lengths follow from the counts, the number of distinct properties, and the bytes
+-- of their boxes
 abbrev pub ValidSizesAreCounted : Type 0
-ValidSizesAreCounted = (s : ItemStore) → Valid s
-    → AreSizes s (is_wide s.items) (length (table_of s)) (counts_of s) (short_inner (is_wide s.items) (short_props (table_of s)) (counts_of s))
+ValidSizesAreCounted = (s : ItemStore) → Valid s → AreSizes s (is_wide s.items) (length (table_of s)) (counts_of s) (counted_inner s)
