@@ -5,11 +5,11 @@ use Rattle.std.specs.List.{AllByRecursion, sum_by, filter}
 use Rattle.std.proofs.lemmas.Bool.{lt-ltb, le-ltb, le-leb, lt-leb}
 use Rattle.std.proofs.lemmas.List.Sums.{sum_by-cons}
 use Rattle.hf_store.specs.Counts.{counts_of, counts_before}
-use Rattle.hf_store.specs.Layout.{own, in_idat, bytes_in, written, mdat_offset, idat_offset, offset_of}
+use Rattle.hf_store.specs.Layout.{own, in_idat, bytes_in, written, mdat_offset, idat_offset}
 use Rattle.hf_store.specs.Lists.{RisesFrom}
-use Rattle.hf_store.specs.Offsets.{offset_by, OffsetsAreCounted}
-use Rattle.hf_store.specs.Store.{Item, ItemStore, ids_of}
-use Rattle.hf_store.proofs.CountsAre.{sum-zero, sum-same, sum-bytes, is_written, mdat-here}
+use Rattle.hf_store.specs.Offsets.{OffsetsAreCounted}
+use Rattle.hf_store.specs.Store.{Item, ids_of}
+use Rattle.hf_store.proofs.CountsAre.{sum-zero, sum-bytes, is_written, mdat-here}
 use Rattle.hf_store.proofs.Spots.{some_is, id_here, rises_at}
 
 -- a sum over those that pass

@@ -1,5 +1,5 @@
 -- How long the boxes of a canonical file are, told by counts.
-use Rattle.std.specs.Prelude.{◌≡◌, ◌⊎◌, ◌+◌, ◌*◌, ◌^◌, ◌<◌, ◌≤◌, ◌==◌, ℕ, Bool, List, length, filter, slice_get, Some, nat_lt, if◌then◌else◌}
+use Rattle.std.specs.Prelude.{◌≡◌, ◌⊎◌, ◌+◌, ◌*◌, ◌^◌, ◌<◌, ◌≤◌, ◌==◌, ℕ, Bool, List, length, filter, nat_lt, if◌then◌else◌}
 use Rattle.std.specs.List.{AllByRecursion, sum_by}
 use Rattle.hf_base.specs.declared.limits.TheConstants as limits
 use Rattle.hf_base.specs.declared.loc.RefBox.{RefBox}
@@ -14,9 +14,9 @@ use Rattle.hf_links.specs.Iref.{reference_box, iref_body}
 use Rattle.hf_loc.specs.Iloc.{iloc_body}
 use Rattle.hf_prop.specs.Ipma.{ipma_body}
 use Rattle.hf_prop.specs.Iprp.{is_long_table, ipco_body, iprp_body}
-use Rattle.hf_store.specs.Counts.{Counts, strings_of, counts_of, counts_of_items, counts_before}
-use Rattle.hf_store.specs.Layout.{Homes, own, is_wide, info_of, infos_of, all_boxes, assocs_of, iprp_of, in_idat, bytes_in, entries_of, offset_of, box_if_any, mdat_body, meta_body, laid}
-use Rattle.hf_store.specs.Store.{Prop, Held, RefList, Item, Group, ItemStore, ids_of}
+use Rattle.hf_store.specs.Counts.{Counts, strings_of, counts_of}
+use Rattle.hf_store.specs.Layout.{Homes, own, is_wide, info_of, infos_of, all_boxes, assocs_of, iprp_of, in_idat, bytes_in, entries_of, box_if_any, mdat_body, meta_body, laid}
+use Rattle.hf_store.specs.Store.{Prop, Held, RefList, Item, Group, ItemStore}
 use Rattle.hf_store.specs.Table.{table_of}
 use Rattle.hf_store.specs.Valid.{IsFour, meta_len, Valid}
 
@@ -186,7 +186,21 @@ counted_meta s = meta_size_by (is_wide s.items) 8 (length (table_of s)) (counts_
 abbrev pub MetaIsCounted : Type 0
 MetaIsCounted = (s : ItemStore) → AreFours s → (meta_len s ≤ limits.META) ⊎ (counted_meta s ≤ limits.META) → (inner_of s ≡ counted_inner s) × (meta_len s ≡ counted_meta s)
 
--- as in each valid store, all of whose lengths follow from the counts, the number of distinct properties, and the bytes
--- of their boxes
+-- the same for a longer `meta`: entries of `iinf` and groups as they are, the others by the counts
+abbrev pub long_inner : ItemStore → Inner
+long_inner s = record {
+  infes = infes_size (is_wide s.items) s.items;
+  links = short_links (is_wide s.items) (counts_of s);
+  props = short_props (table_of s);
+  groups = groups_size s.groups;
+}
+
+-- its length, where all reference lists and properties are short
+abbrev pub LongMetaIsCounted : Type 0
+LongMetaIsCounted = (s : ItemStore) → AllByRecursion (λ (i : Item). AllByRecursion IsShortList i.refs) s.items → AllByRecursion (λ (i : Item). AllByRecursion (λ (h : Held). IsShortProp h.prop) i.props) s.items
+    → (home : Homes) (w file_len : ℕ) → length (box (four "meta") (meta_body home w file_len s)) ≡ meta_size_by (is_wide s.items) w (length (table_of s)) (counts_of s) (long_inner s)
+
+-- in a valid store all lengths follow from the counts, the number of distinct properties, and the bytes of their
+-- boxes
 abbrev pub ValidSizesAreCounted : Type 0
 ValidSizesAreCounted = (s : ItemStore) → Valid s → AreSizes s (is_wide s.items) (length (table_of s)) (counts_of s) (counted_inner s)

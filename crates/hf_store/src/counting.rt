@@ -1,7 +1,7 @@
 //! What is counted over a store. Each is the contract of a function that does nothing.
 
 ghost use Rattle.hf_store.specs.Offsets.{OffsetsAreCounted, NoneBeforeTheFirst, OneMoreBeforeTheNext, AllBeforeTheEnd, RestIsBehind};
-ghost use Rattle.hf_store.specs.Sizes.{SizesAreCounted, InfesAreCounted, LinksAreCounted, PropsAreCounted, GroupsAreCounted, MetaIsCounted, ValidSizesAreCounted};
+ghost use Rattle.hf_store.specs.Sizes.{SizesAreCounted, InfesAreCounted, LinksAreCounted, PropsAreCounted, GroupsAreCounted, MetaIsCounted, LongMetaIsCounted, ValidSizesAreCounted};
 ghost use Rattle.hf_store.specs.Counts.{CountsAreOfTheLayout, ItemGoes, ItemComes, ItemChanges, GroupGoes, GroupComes, GroupChanges};
 
 /// An item or a group that goes takes its counts with it, one that comes brings its own, and one
@@ -36,8 +36,10 @@ pub fn short_sizes_are_counted()
 {}
 
 /// `meta` is within its limit exactly where it is so by the counts, and then as long as they tell.
+/// A longer one is as long as they tell with its entries and groups, each with its own header.
 pub fn meta_is_counted()
-    ensures { MetaIsCounted }
+    ensures within { MetaIsCounted }
+    ensures long { LongMetaIsCounted }
 {}
 
 /// The lengths of the boxes of a valid store follow from the counts, the number of distinct

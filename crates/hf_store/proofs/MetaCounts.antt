@@ -1,11 +1,9 @@
--- The boxes inside others, where each has a header of eight bytes.
-use Rattle.std.proofs.Common.{◌≡◌, ℕ, zero, suc, ◌+◌, ◌*◌, ◌^◌, ◌<◌, ◌≤◌, Bool, true, false, cond, List, [], ◌∷◌, ◌++◌, length, length-append, map, refl, sym, ap, ◌∙◌, arith, subst, inl, inr}
+-- `meta` is within its limit exactly where it is so by the counts.
+use Rattle.std.proofs.Common.{◌≡◌, ℕ, zero, suc, ◌+◌, ◌*◌, ◌^◌, ◌<◌, ◌≤◌, Bool, true, false, cond, List, [], ◌∷◌, ◌++◌, length, map, refl, sym, ap, ◌∙◌, arith, subst, inl, inr}
 use Rattle.std.specs.Prelude.{◌==◌, fold}
 use Rattle.std.specs.List.{AllByRecursion, sum_by, flat_map, list_any}
 use Rattle.std.proofs.Math.Dec.{eqb-suc-zero}
-use Rattle.std.proofs.lemmas.Bool.{cases_Bool}
-use Rattle.std.proofs.lemmas.List.Sums.{sum_by-cons, sum_by-append}
-use Rattle.hf_base.specs.NumberLaws.{length-num}
+use Rattle.std.proofs.lemmas.List.Sums.{sum_by-cons}
 use Rattle.hf_base.specs.declared.limits.TheConstants as limits
 use Rattle.hf_base.specs.declared.loc.RefBox.{RefBox}
 use Rattle.hf_box.specs.Head.{box_len, box}
@@ -15,115 +13,16 @@ use Rattle.hf_info.specs.Infe.{infe_body, infe_box}
 use Rattle.hf_links.specs.Grpl.{group_body, group_box}
 use Rattle.hf_links.specs.Iref.{reference_body, reference_box}
 use Rattle.hf_store.specs.Counts.{Counts, strings_of, targets_of, counts_of}
-use Rattle.hf_store.specs.Layout.{own, is_wide, info_of, item_boxes, all_boxes}
-use Rattle.hf_store.specs.Sizes.{Inner, infes_size, links_size, props_size, groups_size, inner_of, short_props, short_infes, short_links, short_groups, short_inner, ipma_size, meta_size_by, AreSizes, IsShortItem, IsShortList, IsShortProp, IsShortGroup, InfesAreCounted, LinksAreCounted, PropsAreCounted, GroupsAreCounted, AreFours, counted_inner, counted_meta, MetaIsCounted, ValidSizesAreCounted}
+use Rattle.hf_store.specs.Layout.{own, is_wide, info_of, all_boxes}
+use Rattle.hf_store.specs.Sizes.{Inner, infes_size, links_size, props_size, groups_size, inner_of, short_props, short_links, short_groups, ipma_size, meta_size_by, AreSizes, IsShortItem, IsShortList, IsShortProp, IsShortGroup, AreFours, counted_inner, counted_meta, long_inner, MetaIsCounted, LongMetaIsCounted, ValidSizesAreCounted}
 use Rattle.hf_store.specs.Store.{Prop, Held, RefList, Item, Group, ItemStore}
 use Rattle.hf_store.specs.Table.{same_prop, props_of, with_prop, table_of}
 use Rattle.hf_store.specs.Valid.{IsFour, IsGoodRef, IsGoodItem, IsGoodGroup, meta_len, Valid}
-use Rattle.hf_store.proofs.BoxLengths.{length-box, box_len-short, le-box_len}
+use Rattle.hf_store.proofs.BoxLengths.{length-box, le-box_len}
 use Rattle.hf_store.proofs.CountsAre.{counts_are, sum-zero, sum-one}
-use Rattle.hf_store.proofs.FieldLengths.{strings_len, length-infe_body, length-reference_body, length-nums}
-use Rattle.hf_store.proofs.Sizes.{sum-map, meta-counted, sizes_are_counted}
-
--- ---- one box
-
-le-width : (wide : Bool) → id_width wide ≤ 4
-le-width true = omega arith
-le-width false = omega arith
-
-ge-width : (wide : Bool) → 2 ≤ id_width wide
-ge-width true = omega arith
-ge-width false = omega arith
-
-pub infe_body-size : (wide : Bool) (i : Item) → IsFour i.kind → length (infe_body wide (info_of i)) ≡ 10 + id_width wide + strings_of i
-unfolding strings_len
-infe_body-size wide i kind = simp (length-append, length-num) (omega (arith, length-infe_body wide (info_of i) kind))
-
-pub infe-short : (wide : Bool) (i : Item) → IsShortItem i → length (infe_box wide (info_of i)) ≡ 18 + id_width wide + strings_of i
-infe-short wide i short =
-    let body = infe_body-size wide i short.0 in
-    let fits : 8 + (10 + id_width wide + strings_of i) < 256 ^ 4 = omega (arith, short.1, le-width wide) in
-    length-box (four "infe") (infe_body wide (info_of i)) refl ∙ ap box_len body ∙ box_len-short _ fits ∙ omega arith
-
-few_links : (wide : Bool) (n : ℕ) → 14 + n * 4 < 256 ^ 4 → 8 + (id_width wide + 2 + n * id_width wide) < 256 ^ 4
-few_links true n few = omega (arith, few)
-few_links false n few = omega (arith, few)
-
-pub link-short : (wide : Bool) (from : ℕ) (r : RefList) → IsShortList r → length (box r.kind (reference_body wide from r.to)) ≡ 10 + id_width wide + length r.to * id_width wide
-link-short wide from r short =
-    length-box r.kind (reference_body wide from r.to) short.0 ∙ ap box_len (length-reference_body wide from r.to) ∙ box_len-short _ (few_links wide (length r.to) short.1) ∙ omega arith
-
-pub group_body-size : (g : Group) → length (group_body g) ≡ 12 + length g.entities * 4 + length g.tail
-unfolding group_body
-group_body-size g = simp (length-append, length-num, length-nums) (omega arith)
-
-pub group-short : (g : Group) → IsShortGroup g → length (group_box g) ≡ 20 + length g.entities * 4 + length g.tail
-group-short g short =
-    let fits : 8 + (12 + length g.entities * 4 + length g.tail) < 256 ^ 4 = omega (arith, short.1) in
-    length-box g.kind (group_body g) short.0 ∙ ap box_len (group_body-size g) ∙ box_len-short _ fits ∙ omega arith
-
-pub prop-short : (p : Prop) → IsShortProp p → length (box p.kind p.body) ≡ 8 + length p.body
-prop-short p short = length-box p.kind p.body short.0 ∙ box_len-short (length p.body) short.1
-
--- ---- sums
-
-infes_sum : (wide : Bool) (is : List Item) → AllByRecursion IsShortItem is → infes_size wide is ≡ length is * (18 + id_width wide) + sum_by strings_of is
-infes_sum wide [] short = omega arith
-infes_sum wide (i ∷ is) short =
-    let size = sum_by-cons (λ (j : Item). length (infe_box wide (info_of j))) i is in
-    let strings = sum_by-cons strings_of i is in
-    omega (arith, size, strings, infe-short wide i short.0, infes_sum wide is short.1)
-
-pub infes_are_counted : InfesAreCounted
-unfolding counts_of
-infes_are_counted s wide short =
-    let none = sum-zero s.groups in
-    let items = (counts_are s).items in
-    infes_sum wide s.items short ∙ ap (λ n. n * (18 + id_width wide) + sum_by strings_of s.items) (sym items) ∙ omega (arith, none)
-
-links_of_one : (wide : Bool) (from : ℕ) (rs : List RefList) → AllByRecursion IsShortList rs
-    → sum_by (λ (r : RefList). length (box r.kind (reference_body wide from r.to))) rs ≡ length rs * (10 + id_width wide) + targets_of rs * id_width wide
-links_of_one wide from [] short = omega arith
-links_of_one wide from (r ∷ rs) short =
-    let size = sum_by-cons (λ (q : RefList). length (box q.kind (reference_body wide from q.to))) r rs in
-    let targets : targets_of (r ∷ rs) * id_width wide ≡ (length r.to + targets_of rs) * id_width wide = ap (λ n. n * id_width wide) (sum_by-cons (λ (q : RefList). length q.to) r rs) in
-    omega (arith, size, targets, link-short wide from r short.0, links_of_one wide from rs short.1)
-
-links_size-cons : (wide : Bool) (i : Item) (is : List Item) → links_size wide (i ∷ is) ≡ sum_by (λ (r : RefList). length (box r.kind (reference_body wide i.id r.to))) i.refs + links_size wide is
-links_size-cons wide i is =
-    sum_by-append (λ (b : RefBox). length (reference_box wide b)) (item_boxes i.id i.refs) (all_boxes is) ∙ ap (λ n. n + links_size wide is) (sum-map (λ (b : RefBox). length (reference_box wide b)) (λ (r : RefList). record { kind = r.kind; from = i.id; to = r.to }) i.refs)
-
-links_sum : (wide : Bool) (is : List Item) → AllByRecursion (λ (i : Item). AllByRecursion IsShortList i.refs) is
-    → links_size wide is ≡ sum_by (λ (i : Item). length i.refs) is * (10 + id_width wide) + sum_by (λ (i : Item). targets_of i.refs) is * id_width wide
-links_sum wide [] short = omega arith
-links_sum wide (i ∷ is) short =
-    let size = links_size-cons wide i is in
-    let links = ap (λ n. n * (10 + id_width wide)) (sum_by-cons (λ (j : Item). length j.refs) i is) in
-    let targets = ap (λ n. n * id_width wide) (sum_by-cons (λ (j : Item). targets_of j.refs) i is) in
-    omega (arith, size, links, targets, links_of_one wide i.id i.refs short.0, links_sum wide is short.1)
-
-pub links_are_counted : LinksAreCounted
-unfolding counts_of
-links_are_counted s wide short =
-    let none = sum-zero s.groups in
-    let links = sum_by (λ (i : Item). length i.refs) s.items in
-    let targets = sum_by (λ (i : Item). targets_of i.refs) s.items in
-    let more : (n : ℕ) → n ≡ n + sum_by (λ (g : Group). 0) s.groups = λ n. omega (arith, none) in
-    links_sum wide s.items short ∙ ap (λ n. n * (10 + id_width wide) + targets * id_width wide) (more links) ∙ ap (λ n. (links + sum_by (λ (g : Group). 0) s.groups) * (10 + id_width wide) + n * id_width wide) (more targets)
-
-pub props_are_counted : PropsAreCounted
-props_are_counted [] short = refl
-props_are_counted (p ∷ ps) short =
-    omega (arith, sum_by-cons (λ (q : Prop). length (box q.kind q.body)) p ps, sum_by-cons (λ (q : Prop). 8 + length q.body) p ps, prop-short p short.0, props_are_counted ps short.1)
-
-groups_sum : (gs : List Group) → AllByRecursion IsShortGroup gs → groups_size gs ≡ length gs * 20 + sum_by (λ (g : Group). length g.entities) gs * 4 + sum_by (λ (g : Group). length g.tail) gs
-groups_sum [] short = omega arith
-groups_sum (g ∷ gs) short =
-    omega (arith, sum_by-cons (λ (h : Group). length (group_box h)) g gs, sum_by-cons (λ (h : Group). length h.entities) g gs, sum_by-cons (λ (h : Group). length h.tail) g gs, group-short g short.0, groups_sum gs short.1)
-
-pub groups_are_counted : GroupsAreCounted
-unfolding counts_of
-groups_are_counted s short = omega (arith, groups_sum s.groups short, sum-zero s.items, sum-one s.groups)
+use Rattle.hf_store.proofs.FieldLengths.{length-reference_body}
+use Rattle.hf_store.proofs.ShortBoxes.{ge-width, infe_body-size, group_body-size, links_size-cons, infes_are_counted, links_are_counted, props_are_counted, groups_are_counted}
+use Rattle.hf_store.proofs.Sizes.{meta-counted, sizes_are_counted}
 
 -- ---- all boxes are short where they are few bytes
 
@@ -184,8 +83,7 @@ links_fit : (wide : Bool) (is : List Item) (top : ℕ) → AllByRecursion (λ (i
     → AllByRecursion (λ (i : Item). AllByRecursion IsShortList i.refs) is
 links_fit wide [] top fours sum small = tt
 links_fit wide (i ∷ is) top fours sum small =
-    let size = links_size-cons wide i is in
-    (
+    let size = links_size-cons wide i is in (
       all_below (λ (r : RefList). length (box r.kind (reference_body wide i.id r.to))) (λ (r : RefList). IsFour r.kind) IsShortList top i.refs fours.0 (omega (arith, size, sum)) (λ r kind le. link_fits wide i.id r top kind le small),
       links_fit wide is top fours.1 (omega (arith, size, sum)) small,
     )
@@ -205,28 +103,29 @@ all_append : {A : Type 0} (P : A → Type 0) (xs ys : List A) → AllByRecursion
 all_append P [] ys some more = more
 all_append P (x ∷ xs) ys some more = (some.0, all_append P xs ys some.1 more)
 
-abbrev FourProp : Prop → Type 0
-FourProp p = IsFour p.kind
+-- what holds of the properties of all items holds of the table
+all_with : (P : Prop → Type 0) (earlier : List Prop) (p : Prop) → AllByRecursion P earlier → P p → AllByRecursion P (with_prop earlier p)
+all_with P earlier p all this =
+    elim (list_any (same_prop p) earlier) as (λ b. AllByRecursion P (cond b earlier (earlier ++ p ∷ []))) [ true ↦ all | false ↦ all_append P earlier (p ∷ []) all (this, tt) ]
 
-four_with : (earlier : List Prop) (p : Prop) → AllByRecursion FourProp earlier → FourProp p → AllByRecursion FourProp (with_prop earlier p)
-four_with earlier p fours kind =
-    elim (list_any (same_prop p) earlier) as (λ b. AllByRecursion FourProp (cond b earlier (earlier ++ p ∷ []))) [ true ↦ fours | false ↦ all_append FourProp earlier (p ∷ []) fours (kind, tt) ]
+all_folded : (P : Prop → Type 0) (earlier ps : List Prop) → AllByRecursion P earlier → AllByRecursion P ps → AllByRecursion P (fold with_prop earlier ps)
+all_folded P earlier [] all more = all
+all_folded P earlier (p ∷ ps) all more = all_folded P (with_prop earlier p) ps (all_with P earlier p all more.0) more.1
 
-four_folded : (earlier ps : List Prop) → AllByRecursion FourProp earlier → AllByRecursion FourProp ps → AllByRecursion FourProp (fold with_prop earlier ps)
-four_folded earlier [] fours more = fours
-four_folded earlier (p ∷ ps) fours more = four_folded (with_prop earlier p) ps (four_with earlier p fours more.0) more.1
+all_held : (P : Prop → Type 0) (hs : List Held) → AllByRecursion (λ (h : Held). P h.prop) hs → AllByRecursion P (map (λ (h : Held). h.prop) hs)
+all_held P [] all = tt
+all_held P (h ∷ hs) all = (all.0, all_held P hs all.1)
 
-four_held : (hs : List Held) → AllByRecursion (λ (h : Held). IsFour h.prop.kind) hs → AllByRecursion FourProp (map (λ (h : Held). h.prop) hs)
-four_held [] fours = tt
-four_held (h ∷ hs) fours = (fours.0, four_held hs fours.1)
+all_props : (P : Prop → Type 0) (is : List Item) → AllByRecursion (λ (i : Item). AllByRecursion (λ (h : Held). P h.prop) i.props) is → AllByRecursion P (flat_map props_of is)
+all_props P [] all = tt
+all_props P (i ∷ is) all = all_append P (props_of i) (flat_map props_of is) (all_held P i.props all.0) (all_props P is all.1)
 
-four_props : (is : List Item) → AllByRecursion (λ (i : Item). AllByRecursion (λ (h : Held). IsFour h.prop.kind) i.props) is → AllByRecursion FourProp (flat_map props_of is)
-four_props [] fours = tt
-four_props (i ∷ is) fours = all_append FourProp (props_of i) (flat_map props_of is) (four_held i.props fours.0) (four_props is fours.1)
-
-pub four_table : (s : ItemStore) → AreFours s → AllByRecursion FourProp (table_of s)
+pub all_in_table : (P : Prop → Type 0) (s : ItemStore) → AllByRecursion (λ (i : Item). AllByRecursion (λ (h : Held). P h.prop) i.props) s.items → AllByRecursion P (table_of s)
 unfolding table_of
-four_table s fours = four_folded [] (flat_map props_of s.items) tt (four_props s.items fours.props)
+all_in_table P s all = all_folded P [] (flat_map props_of s.items) tt (all_props P s.items all)
+
+pub four_table : (s : ItemStore) → AreFours s → AllByRecursion (λ (p : Prop). IsFour p.kind) (table_of s)
+four_table s fours = all_in_table (λ (p : Prop). IsFour p.kind) s fours.props
 
 all_of : {A : Type 0} (Q P : A → Type 0) (xs : List A) → AllByRecursion Q xs → ((x : A) → Q x → P x) → AllByRecursion P xs
 all_of Q P [] good each = tt
@@ -239,6 +138,11 @@ valid_fours s valid = record {
   props = all_of (IsGoodItem s.items) (λ (i : Item). AllByRecursion (λ (h : Held). IsFour h.prop.kind) i.props) s.items valid.items (λ i good. good.prop_kinds);
   groups = all_of (IsGoodGroup s.items) (λ (g : Group). IsFour g.kind) s.groups valid.groups (λ g good. good.kind);
 }
+
+-- the lists of items that are good in all else are short
+pub lists_are_short : (s : ItemStore) → AllByRecursion (IsGoodItem s.items) s.items → AllByRecursion (λ (i : Item). AllByRecursion IsShortList i.refs) s.items
+lists_are_short s good =
+    all_of (IsGoodItem s.items) (λ (i : Item). AllByRecursion IsShortList i.refs) s.items good (λ i item. all_of (IsGoodRef s.items) IsShortList i.refs item.refs (λ r ref. (ref.kind, omega (arith, ref.links))))
 
 -- ---- meta
 
@@ -355,6 +259,13 @@ meta_where_short s short =
 pub meta_is_counted : MetaIsCounted
 meta_is_counted s fours (inl small) = meta_where_short s (short_as_laid s fours small)
 meta_is_counted s fours (inr small) = meta_where_short s (short_as_counted s fours small)
+
+pub long_meta_is_counted : LongMetaIsCounted
+unfolding inner_of
+long_meta_is_counted s lists props home w file_len =
+    let wide = is_wide s.items in
+    let inner : inner_of s ≡ long_inner s = rw (links_are_counted s wide lists, props_are_counted (table_of s) (all_in_table IsShortProp s props)) refl in
+    meta-counted s home w file_len ∙ ap (λ (b : Inner). meta_size_by wide w (length (table_of s)) (counts_of s) b) inner
 
 pub valid_sizes_are_counted : ValidSizesAreCounted
 valid_sizes_are_counted s valid =
