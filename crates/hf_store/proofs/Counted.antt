@@ -1,10 +1,10 @@
 -- The counts of lists and stores add up.
-use Rattle.std.proofs.Common.{◌≡◌, ℕ, ◌+◌, List, [], ◌∷◌, ◌++◌, map, take, drop, set, refl, sym, ap, ◌∙◌, arith, Some}
+use Rattle.std.proofs.Common.{Bool, true, false, cond, ◌≡◌, ℕ, ◌+◌, List, [], ◌∷◌, ◌++◌, map, take, drop, set, refl, sym, ap, ◌∙◌, arith, Some}
 use Rattle.std.specs.Prelude.{slice_get}
-use Rattle.std.specs.List.{sum_by, remove, insert}
+use Rattle.std.specs.List.{sum_by, filter, remove, insert}
 use Rattle.std.proofs.lemmas.List.Sums.{sum_by-cons, sum_by-append, sum_by-remove, sum_by-insert, sum_by-set, sum_by_more}
 use Rattle.std.proofs.lemmas.List.{take_all, take-append-drop}
-use Rattle.hf_store.specs.Counts.{Counts, plus, summed, counts_of_item, counts_of_group, counts_of_items, counts_of_groups, counts_of, counts_before, ItemGoes, ItemComes, ItemChanges, GroupGoes, GroupComes, GroupChanges}
+use Rattle.hf_store.specs.Counts.{Counts, no_counts, plus, summed, counts_of_item, counts_of_group, counts_of_items, counts_of_groups, counts_of, counts_before, ItemGoes, ItemComes, ItemChanges, GroupGoes, GroupComes, GroupChanges}
 use Rattle.hf_store.specs.Offsets.{NoneBeforeTheFirst, OneMoreBeforeTheNext, AllBeforeTheEnd, RestIsBehind}
 use Rattle.hf_store.proofs.Spots.{at_or, within_at}
 
@@ -105,6 +105,32 @@ pub summed-plus : {A : Type 0} (f g : A → Counts) (xs : List A) → summed (λ
 summed-plus f g [] = refl
 summed-plus f g (x ∷ xs) =
     summed-cons (λ y. plus (f y) (g y)) x xs ∙ ap (plus (plus (f x) (g x))) (summed-plus f g xs) ∙ plus-shuffle (f x) (g x) (summed f xs) (summed g xs) ∙ sym (ap (λ c. plus c (summed g (x ∷ xs))) (summed-cons f x xs) ∙ ap (plus (plus (f x) (summed f xs))) (summed-cons g x xs))
+
+-- what each loses, all lose
+pub summed-changed : {A B : Type 0} (f : B → Counts) (g : A → B) (lost whole : A → Counts) (xs : List A) → ((x : A) → plus (f (g x)) (lost x) ≡ whole x) → plus (summed f (map g xs)) (summed lost xs) ≡ summed whole xs
+summed-changed f g lost whole [] each = refl
+summed-changed f g lost whole (x ∷ xs) each =
+    ap (λ c. plus c (summed lost (x ∷ xs))) (summed-cons f (g x) (map g xs))
+    ∙ ap (plus (plus (f (g x)) (summed f (map g xs)))) (summed-cons lost x xs)
+    ∙ plus-shuffle (f (g x)) (summed f (map g xs)) (lost x) (summed lost xs)
+    ∙ ap (λ c. plus c (plus (summed f (map g xs)) (summed lost xs))) (each x)
+    ∙ ap (plus (whole x)) (summed-changed f g lost whole xs each)
+    ∙ sym (summed-cons whole x xs)
+
+none-plus : (c : Counts) → plus no_counts c ≡ c
+none-plus c = grind arith
+
+summed-here : {A : Type 0} (f : A → Counts) (b : Bool) (x : A) (xs : List A) → summed f (cond b (x ∷ xs) xs) ≡ plus (cond b (f x) no_counts) (summed f xs)
+summed-here f true x xs = summed-cons f x xs
+summed-here f false x xs = sym (none-plus (summed f xs))
+
+-- those that do not pass count nothing
+pub summed-filter : {A : Type 0} (f : A → Counts) (p : A → Bool) (xs : List A) → summed f (filter p xs) ≡ summed (λ x. cond (p x) (f x) no_counts) xs
+summed-filter f p [] = refl
+summed-filter f p (x ∷ xs) =
+    summed-here f (p x) x (filter p xs)
+    ∙ ap (plus (cond (p x) (f x) no_counts)) (summed-filter f p xs)
+    ∙ sym (summed-cons (λ y. cond (p y) (f y) no_counts) x xs)
 
 -- those before the first place are none, and those before the end are all
 pub none_before_the_first : NoneBeforeTheFirst

@@ -1,5 +1,5 @@
 -- The lengths of boxes are those that the counts tell.
-use Rattle.std.proofs.Common.{◌≡◌, ℕ, ◌+◌, ◌*◌, Bool, true, false, cond, List, [], ◌∷◌, ◌++◌, length, length-append, map, refl, sym, ap, ◌∙◌, arith, inl, inr}
+use Rattle.std.proofs.Common.{◌≡◌, ℕ, zero, suc, ◌≤◌, ltb, ◌+◌, ◌*◌, Bool, true, false, cond, List, [], ◌∷◌, ◌++◌, length, length-append, map, refl, sym, ap, ◌∙◌, arith, inl, inr, subst}
 use Rattle.std.specs.Prelude.{◌==◌}
 use Rattle.std.specs.List.{sum_by, flat_map, filter}
 use Rattle.std.proofs.Math.Dec.{eqb-suc-zero}
@@ -20,17 +20,17 @@ use Rattle.hf_info.specs.Infe.{Info, infe_box}
 use Rattle.hf_info.specs.Iinf.{iinf_body}
 use Rattle.hf_links.specs.Grpl.{group_box, grpl_body}
 use Rattle.hf_links.specs.Iref.{reference_box, iref_body}
-use Rattle.hf_loc.specs.Iloc.{iloc_body}
+use Rattle.hf_loc.specs.Iloc.{offset_width, iloc_body}
 use Rattle.hf_prop.specs.Ipma.{ipma_entry, ipma_body}
 use Rattle.hf_prop.specs.Iprp.{is_long_table, ipco_body, iprp_body}
-use Rattle.hf_store.specs.Counts.{counts_of}
+use Rattle.hf_store.specs.Counts.{Counts, counts_of}
 use Rattle.hf_store.specs.Layout.{Homes, own, is_wide, info_of, infos_of, all_boxes, has_bytes, has_props, assoc_of, assocs_of, iprp_of, in_idat, bytes_in, entries_of, with_bytes, box_if_any, mdat_body, meta_body, laid}
 use Rattle.hf_store.specs.Picks.{pick_of}
-use Rattle.hf_store.specs.Sizes.{infes_size, links_size, props_size, groups_size, inner_of, ipma_size, idat_size, iloc_size, meta_size_by, mdat_size, ftyp_size, file_size_by, SizesAreCounted}
+use Rattle.hf_store.specs.Sizes.{infes_size, links_size, props_size, groups_size, Inner, inner_of, short_inner, iinf_size, iref_size, ipma_size, iprp_size, grpl_size, idat_size, iloc_size, meta_size_by, mdat_size, ftyp_size, file_size_by, SizesAreCounted}
 use Rattle.hf_store.specs.Store.{Prop, Item, Group, ItemStore}
 use Rattle.hf_store.specs.Table.{table_of}
 use Rattle.hf_store.specs.Valid.{IsFour}
-use Rattle.hf_store.proofs.BoxLengths.{length-box, box_len-short}
+use Rattle.hf_store.proofs.BoxLengths.{length-box, box_len-short, box_len-le}
 use Rattle.hf_store.proofs.CountsAre.{counts_are, sum-zero}
 use Rattle.hf_store.proofs.FieldLengths.{length-ftyp_body, length-hdlr_body, length-pitm_body, length-iinf_body, length-ipma_entry, length-ipma_body, length-meta_front}
 use Rattle.hf_store.proofs.Lengths.{meta_body_len, length-iloc_body, length-meta_body}
@@ -197,3 +197,57 @@ sizes_are_counted s =
       ftyp = ftyp-counted s;
       file = file-counted s;
     }
+
+-- ---- bounds
+
+le-width : (wide : Bool) → id_width wide ≤ 4
+le-width true = omega arith
+le-width false = omega arith
+
+if_any-le : (count n : ℕ) → cond (count == 0) 0 (box_len n) ≤ 16 + n
+if_any-le zero n = omega arith
+if_any-le (suc count) n = subst (λ (b : Bool). cond b 0 (box_len n) ≤ 16 + n) (sym (eqb-suc-zero count)) (box_len-le n)
+
+holders-le : (wide : Bool) (n : ℕ) → n * (1 + id_width wide) ≤ n * 5
+holders-le true n = omega arith
+holders-le false n = omega arith
+
+picks-le : (two_bytes : Bool) (n : ℕ) → n * (1 + bit two_bytes) ≤ n * 2
+picks-le true n = omega arith
+picks-le false n = omega arith
+
+located-le : (wide long : Bool) (n : ℕ) → n * (6 + id_width wide + (offset_width long + offset_width long)) ≤ n * 26
+located-le true true n = omega arith
+located-le true false n = omega arith
+located-le false true n = omega arith
+located-le false false n = omega arith
+
+-- `meta` is little longer than what stands in it
+pub meta_size-le : (wide long : Bool) (n : ℕ) (c : Counts) (b : Inner)
+    → meta_size_by wide (offset_width long) n c b ≤ 300 + b.infes + b.links + b.props + b.groups + c.holders * 5 + c.picks * 2 + c.idat + c.located * 26
+meta_size-le wide long n c b =
+    let w = offset_width long in
+    let width = le-width wide in
+    let iinf = box_len-le (4 + id_width wide + b.infes) in
+    let iref = if_any-le c.links (4 + b.links) in
+    let ipco = box_len-le b.props in
+    let ipma = box_len-le (8 + c.holders * (1 + id_width wide) + c.picks * (1 + bit (ltb 127 n))) in
+    let iprp = box_len-le (box_len b.props + ipma_size wide n c) in
+    let grpl = if_any-le c.groups b.groups in
+    let idat = if_any-le c.idat c.idat in
+    let iloc = box_len-le (6 + id_width wide + c.located * (6 + id_width wide + (w + w))) in
+    let inside = 4 + 33 + (12 + id_width wide) + iinf_size wide b + iref_size c b + iprp_size wide n c b + grpl_size c b + idat_size c + iloc_size wide w c in
+    omega (arith, box_len-le inside, width, iinf, iref, ipco, ipma, iprp, grpl, idat, iloc, holders-le wide c.holders, picks-le (ltb 127 n) c.picks, located-le wide long c.located)
+
+links-le : (wide : Bool) (links targets : ℕ) → links * (10 + id_width wide) + targets * id_width wide ≤ links * 14 + targets * 4
+links-le true links targets = omega arith
+links-le false links targets = omega arith
+
+infes-le : (wide : Bool) (items : ℕ) → items * (18 + id_width wide) ≤ items * 22
+infes-le true items = omega arith
+infes-le false items = omega arith
+
+-- and no longer than the counts tell
+pub short_inner-le : (wide : Bool) (props : ℕ) (c : Counts) → let b = short_inner wide props c in
+    b.infes + b.links + b.props + b.groups ≤ c.items * 22 + c.strings + c.links * 14 + c.targets * 4 + props + c.groups * 20 + c.entities * 4 + c.tails
+short_inner-le wide props c = omega (arith, links-le wide c.links c.targets, infes-le wide c.items)
