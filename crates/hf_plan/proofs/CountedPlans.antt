@@ -32,7 +32,8 @@ sizes-counted long s valid =
     rw (sizes.meta own (offset_width long) 0, sizes.iinf, sizes.iref, sizes.iprp, sizes.ipco, sizes.ipma, sizes.grpl, sizes.idat, sizes.iloc own (offset_width long) 0, sizes.mdat) refl
 
 -- the whole file
-pub total-counted : (w : ℕ) (s : ItemStore) → Valid s → length (laid own w 0 s) ≡ file_size_by (is_wide s.items) w (length (table_of s)) s.brands (counts_of s) (counted_inner s)
+pub total-counted : (w : ℕ) (s : ItemStore) → Valid s
+    → length (laid own w 0 s) ≡ file_size_by (is_wide s.items) w (length (table_of s)) s.brands (counts_of s) (counted_inner s)
 total-counted w s valid = (valid_sizes_are_counted s valid).file w 0 valid.brands.major
 
 -- the offset that is written for an item

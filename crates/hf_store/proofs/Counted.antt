@@ -72,7 +72,8 @@ pub item_changes : ItemChanges
 unfolding counts_of
 item_changes s k i j here =
     let groups = counts_of_groups s.groups in
-    plus-swap (counts_of_items (set s.items k j)) groups (counts_of_item i) ∙ ap (λ c. plus c groups) (summed-set counts_of_item s.items k i here j) ∙ plus-swap (counts_of_items s.items) (counts_of_item j) groups
+    plus-swap (counts_of_items (set s.items k j)) groups (counts_of_item i) ∙ ap (λ c. plus c groups) (summed-set counts_of_item s.items k i here j)
+    ∙ plus-swap (counts_of_items s.items) (counts_of_item j) groups
 
 pub group_goes : GroupGoes
 unfolding counts_of
@@ -90,7 +91,8 @@ pub group_changes : GroupChanges
 unfolding counts_of
 group_changes s k g h here =
     let items = counts_of_items s.items in
-    plus-assoc items (counts_of_groups (set s.groups k h)) (counts_of_group g) ∙ ap (plus items) (summed-set counts_of_group s.groups k g here h) ∙ sym (plus-assoc items (counts_of_groups s.groups) (counts_of_group h))
+    plus-assoc items (counts_of_groups (set s.groups k h)) (counts_of_group g) ∙ ap (plus items) (summed-set counts_of_group s.groups k g here h)
+    ∙ sym (plus-assoc items (counts_of_groups s.groups) (counts_of_group h))
 
 -- ---- all elements at once
 
@@ -99,15 +101,18 @@ summed-map f g [] = refl
 summed-map f g (x ∷ xs) = summed-cons f (g x) (map g xs) ∙ ap (plus (f (g x))) (summed-map f g xs) ∙ sym (summed-cons (λ y. f (g y)) x xs)
 
 plus-shuffle : (a b c d : Counts) → plus (plus a b) (plus c d) ≡ plus (plus a c) (plus b d)
-plus-shuffle a b c d = plus-assoc a b (plus c d) ∙ ap (plus a) (sym (plus-assoc b c d) ∙ ap (λ x. plus x d) (plus-comm b c) ∙ plus-assoc c b d) ∙ sym (plus-assoc a c (plus b d))
+plus-shuffle a b c d =
+    plus-assoc a b (plus c d) ∙ ap (plus a) (sym (plus-assoc b c d) ∙ ap (λ x. plus x d) (plus-comm b c) ∙ plus-assoc c b d) ∙ sym (plus-assoc a c (plus b d))
 
 pub summed-plus : {A : Type 0} (f g : A → Counts) (xs : List A) → summed (λ x. plus (f x) (g x)) xs ≡ plus (summed f xs) (summed g xs)
 summed-plus f g [] = refl
 summed-plus f g (x ∷ xs) =
-    summed-cons (λ y. plus (f y) (g y)) x xs ∙ ap (plus (plus (f x) (g x))) (summed-plus f g xs) ∙ plus-shuffle (f x) (g x) (summed f xs) (summed g xs) ∙ sym (ap (λ c. plus c (summed g (x ∷ xs))) (summed-cons f x xs) ∙ ap (plus (plus (f x) (summed f xs))) (summed-cons g x xs))
+    summed-cons (λ y. plus (f y) (g y)) x xs ∙ ap (plus (plus (f x) (g x))) (summed-plus f g xs) ∙ plus-shuffle (f x) (g x) (summed f xs) (summed g xs)
+    ∙ sym (ap (λ c. plus c (summed g (x ∷ xs))) (summed-cons f x xs) ∙ ap (plus (plus (f x) (summed f xs))) (summed-cons g x xs))
 
 -- what each loses, all lose
-pub summed-changed : {A B : Type 0} (f : B → Counts) (g : A → B) (lost whole : A → Counts) (xs : List A) → ((x : A) → plus (f (g x)) (lost x) ≡ whole x) → plus (summed f (map g xs)) (summed lost xs) ≡ summed whole xs
+pub summed-changed : {A B : Type 0} (f : B → Counts) (g : A → B) (lost whole : A → Counts) (xs : List A) → ((x : A) → plus (f (g x)) (lost x) ≡ whole x)
+    → plus (summed f (map g xs)) (summed lost xs) ≡ summed whole xs
 summed-changed f g lost whole [] each = refl
 summed-changed f g lost whole (x ∷ xs) each =
     ap (λ c. plus c (summed lost (x ∷ xs))) (summed-cons f (g x) (map g xs))
@@ -146,4 +151,5 @@ pub rest_is_behind : RestIsBehind
 unfolding counts_of
 rest_is_behind s k =
     let parts = sym (summed-append counts_of_item (take k s.items) (drop k s.items)) ∙ ap counts_of_items (take-append-drop k s.items) in
-    ap (λ c. plus c (counts_of_groups s.groups)) (sym parts) ∙ plus-assoc (counts_before k s.items) (counts_of_items (drop k s.items)) (counts_of_groups s.groups)
+    ap (λ c. plus c (counts_of_groups s.groups)) (sym parts)
+    ∙ plus-assoc (counts_before k s.items) (counts_of_items (drop k s.items)) (counts_of_groups s.groups)

@@ -49,7 +49,8 @@ bytes-here false i is = omega arith
 pub sum-bytes : (p : Item → Bool) (is : List Item) → sum_by (λ (i : Item). cond (p i) (length i.bytes) 0) is ≡ length (bytes_in (filter p is))
 sum-bytes p [] = unfold bytes_in in refl
 sum-bytes p (i ∷ is) =
-    sum_by-cons (λ (j : Item). cond (p j) (length j.bytes) 0) i is ∙ ap (λ n. cond (p i) (length i.bytes) 0 + n) (sum-bytes p is) ∙ bytes-here (p i) i (filter p is)
+    sum_by-cons (λ (j : Item). cond (p j) (length j.bytes) 0) i is ∙ ap (λ n. cond (p i) (length i.bytes) 0 + n) (sum-bytes p is)
+    ∙ bytes-here (p i) i (filter p is)
 
 -- ---- each count
 
@@ -67,10 +68,13 @@ wide-counted (i ∷ is) =
 
 pub links-counted : (is : List Item) → sum_by (λ (i : Item). length i.refs) is ≡ length (all_boxes is)
 links-counted is =
-    sum-same (λ (i : Item). length i.refs) (λ (i : Item). length (item_boxes i.id i.refs)) is (λ i. sym (length-map i.refs (λ (r : RefList). record { kind = r.kind; from = i.id; to = r.to }))) ∙ sym (length-flat_map (λ (i : Item). item_boxes i.id i.refs) is)
+    sum-same (λ (i : Item). length i.refs) (λ (i : Item). length (item_boxes i.id i.refs)) is (λ i. sym (length-map i.refs (λ (r : RefList). record { kind = r.kind; from = i.id; to = r.to })))
+    ∙ sym (length-flat_map (λ (i : Item). item_boxes i.id i.refs) is)
 
 pub picks-counted : (is : List Item) → sum_by (λ (i : Item). length i.props) is ≡ length (flat_map props_of is)
-picks-counted is = sum-same (λ (i : Item). length i.props) (λ (i : Item). length (props_of i)) is (λ i. sym (length-map i.props (λ h. h.prop))) ∙ sym (length-flat_map props_of is)
+picks-counted is =
+    sum-same (λ (i : Item). length i.props) (λ (i : Item). length (props_of i)) is (λ i. sym (length-map i.props (λ h. h.prop)))
+    ∙ sym (length-flat_map props_of is)
 
 abbrev pub is_written : Item → Bool
 is_written i = is_data_item i && (i.id == i.id)
@@ -92,16 +96,19 @@ mdat-here i =
     ]
 
 pub mdat-counted : (is : List Item) → sum_by (λ (i : Item). cond (in_idat i) 0 (length i.bytes)) is ≡ length (mdat_body own is)
-mdat-counted is = sum-same (λ (i : Item). cond (in_idat i) 0 (length i.bytes)) (λ (i : Item). cond (is_written i) (length i.bytes) 0) is mdat-here ∙ sum-bytes is_written is
+mdat-counted is =
+    sum-same (λ (i : Item). cond (in_idat i) 0 (length i.bytes)) (λ (i : Item). cond (is_written i) (length i.bytes) 0) is mdat-here ∙ sum-bytes is_written is
 
 split-here : (b : Bool) (n : ℕ) → cond b n 0 + cond b 0 n ≡ n
 split-here true n = omega arith
 split-here false n = omega arith
 
-pub body-counted : (is : List Item) → sum_by (λ (i : Item). cond (in_idat i) (length i.bytes) 0) is + sum_by (λ (i : Item). cond (in_idat i) 0 (length i.bytes)) is ≡ body_sum is
+pub body-counted : (is : List Item)
+    → sum_by (λ (i : Item). cond (in_idat i) (length i.bytes) 0) is + sum_by (λ (i : Item). cond (in_idat i) 0 (length i.bytes)) is ≡ body_sum is
 unfolding body_sum
 body-counted is =
-    sym (sum-two (λ (i : Item). cond (in_idat i) (length i.bytes) 0) (λ (i : Item). cond (in_idat i) 0 (length i.bytes)) is) ∙ sum-same (λ (i : Item). cond (in_idat i) (length i.bytes) 0 + cond (in_idat i) 0 (length i.bytes)) (λ (i : Item). length i.bytes) is (λ i. split-here (in_idat i) (length i.bytes))
+    sym (sum-two (λ (i : Item). cond (in_idat i) (length i.bytes) 0) (λ (i : Item). cond (in_idat i) 0 (length i.bytes)) is)
+    ∙ sum-same (λ (i : Item). cond (in_idat i) (length i.bytes) 0 + cond (in_idat i) 0 (length i.bytes)) (λ (i : Item). length i.bytes) is (λ i. split-here (in_idat i) (length i.bytes))
 
 pub counts_are : CountsAreOfTheLayout
 unfolding counts_of

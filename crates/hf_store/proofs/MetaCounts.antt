@@ -14,7 +14,7 @@ use Rattle.hf_links.specs.Grpl.{group_body, group_box}
 use Rattle.hf_links.specs.Iref.{reference_body, reference_box}
 use Rattle.hf_store.specs.Counts.{Counts, strings_of, targets_of, counts_of}
 use Rattle.hf_store.specs.Layout.{own, is_wide, info_of, all_boxes}
-use Rattle.hf_store.specs.Sizes.{Inner, infes_size, links_size, props_size, groups_size, inner_of, short_props, short_links, short_groups, ipma_size, meta_size_by, AreSizes, IsShortItem, IsShortList, IsShortProp, IsShortGroup, AreFours, counted_inner, counted_meta, long_inner, MetaIsCounted, LongMetaIsCounted, ValidSizesAreCounted}
+use Rattle.hf_store.specs.Sizes.{infe_size, prop_box_size, group_size, AllRefs, AllProps, IsFourItem, IsFourList, IsFourProp, IsFourGroup, Inner, infes_size, links_size, props_size, groups_size, inner_of, short_props, short_links, short_groups, ipma_size, meta_size_by, AreSizes, IsShortItem, IsShortList, IsShortProp, IsShortGroup, AreFours, counted_inner, counted_meta, long_inner, MetaIsCounted, LongMetaIsCounted, ValidSizesAreCounted}
 use Rattle.hf_store.specs.Store.{Prop, Held, RefList, Item, Group, ItemStore}
 use Rattle.hf_store.specs.Table.{same_prop, props_of, with_prop, table_of}
 use Rattle.hf_store.specs.Valid.{IsFour, IsGoodRef, IsGoodItem, IsGoodGroup, meta_len, Valid}
@@ -27,47 +27,54 @@ use Rattle.hf_store.proofs.Sizes.{meta-counted, sizes_are_counted}
 -- ---- all boxes are short where they are few bytes
 
 -- what holds of each where the sum of all has a bound
-all_below : {A : Type 0} (f : A → ℕ) (Q P : A → Type 0) (top : ℕ) (xs : List A) → AllByRecursion Q xs → sum_by f xs ≤ top → ((x : A) → Q x → f x ≤ top → P x) → AllByRecursion P xs
+all_below : {A : Type 0} (f : A → ℕ) (Q P : A → Type 0) (top : ℕ) (xs : List A) → AllByRecursion Q xs → sum_by f xs ≤ top → ((x : A) → Q x → f x ≤ top → P x)
+    → AllByRecursion P xs
 all_below f Q P top [] good sum each = tt
 all_below f Q P top (x ∷ xs) good sum each =
     let both = sum_by-cons f x xs in
     (each x good.0 (omega (arith, both, sum)), all_below f Q P top xs good.1 (omega (arith, both, sum)) each)
 
-pub infes_are_short : (s : ItemStore) → AllByRecursion (λ (i : Item). IsFour i.kind) s.items → 22 + (counts_of s).strings < 256 ^ 4 → AllByRecursion IsShortItem s.items
+pub infes_are_short : (s : ItemStore) → AllByRecursion IsFourItem s.items → 22 + (counts_of s).strings < 256 ^ 4
+    → AllByRecursion IsShortItem s.items
 unfolding counts_of
 infes_are_short s fours few =
-    all_below strings_of (λ (i : Item). IsFour i.kind) IsShortItem (sum_by strings_of s.items) s.items fours (omega arith) (λ i kind le. (kind, omega (arith, le, few)))
+    all_below strings_of IsFourItem IsShortItem (sum_by strings_of s.items) s.items fours (omega arith) (λ i kind le. (kind, omega (arith, le, few)))
 
-pub links_are_short : (s : ItemStore) → AllByRecursion (λ (i : Item). AllByRecursion (λ (r : RefList). IsFour r.kind) i.refs) s.items → 14 + (counts_of s).targets * 4 < 256 ^ 4
-    → AllByRecursion (λ (i : Item). AllByRecursion IsShortList i.refs) s.items
+pub links_are_short : (s : ItemStore) → AllRefs IsFourList s.items
+    → 14 + (counts_of s).targets * 4 < 256 ^ 4
+    → AllRefs IsShortList s.items
 unfolding counts_of
 links_are_short s fours few =
     let top = sum_by (λ (i : Item). targets_of i.refs) s.items in
-    all_below (λ (i : Item). targets_of i.refs) (λ (i : Item). AllByRecursion (λ (r : RefList). IsFour r.kind) i.refs) (λ (i : Item). AllByRecursion IsShortList i.refs) top s.items fours (omega arith)
-    (λ i kinds le. all_below (λ (r : RefList). length r.to) (λ (r : RefList). IsFour r.kind) IsShortList top i.refs kinds le (λ r kind less. (kind, omega (arith, less, few))))
+    all_below (λ (i : Item). targets_of i.refs) (λ (i : Item). AllByRecursion IsFourList i.refs) (λ (i : Item). AllByRecursion IsShortList i.refs) top s.items fours (omega arith)
+    (λ i kinds le. all_below (λ (r : RefList). length r.to) IsFourList IsShortList top i.refs kinds le (λ r kind less. (kind, omega (arith, less, few))))
 
-pub props_are_short : (ps : List Prop) → AllByRecursion (λ (p : Prop). IsFour p.kind) ps → short_props ps < 256 ^ 4 → AllByRecursion IsShortProp ps
-props_are_short ps fours few = all_below (λ (p : Prop). 8 + length p.body) (λ (p : Prop). IsFour p.kind) IsShortProp (short_props ps) ps fours (omega arith) (λ p kind le. (kind, omega (arith, le, few)))
+pub props_are_short : (ps : List Prop) → AllByRecursion IsFourProp ps → short_props ps < 256 ^ 4 → AllByRecursion IsShortProp ps
+props_are_short ps fours few =
+    all_below (λ (p : Prop). 8 + length p.body) IsFourProp IsShortProp (short_props ps) ps fours (omega arith) (λ p kind le. (kind, omega (arith, le, few)))
 
 abbrev group_bytes : Group → ℕ
 group_bytes g = 20 + length g.entities * 4 + length g.tail
 
-group_bytes-sum : (gs : List Group) → sum_by group_bytes gs ≡ length gs * 20 + sum_by (λ (g : Group). length g.entities) gs * 4 + sum_by (λ (g : Group). length g.tail) gs
+group_bytes-sum : (gs : List Group)
+    → sum_by group_bytes gs ≡ length gs * 20 + sum_by (λ (g : Group). length g.entities) gs * 4 + sum_by (λ (g : Group). length g.tail) gs
 group_bytes-sum [] = omega arith
 group_bytes-sum (g ∷ gs) =
     omega (arith, sum_by-cons group_bytes g gs, sum_by-cons (λ (h : Group). length h.entities) g gs, sum_by-cons (λ (h : Group). length h.tail) g gs, group_bytes-sum gs)
 
-pub groups_are_short : (s : ItemStore) → AllByRecursion (λ (g : Group). IsFour g.kind) s.groups → short_groups (counts_of s) < 256 ^ 4 → AllByRecursion IsShortGroup s.groups
+pub groups_are_short : (s : ItemStore) → AllByRecursion IsFourGroup s.groups → short_groups (counts_of s) < 256 ^ 4
+    → AllByRecursion IsShortGroup s.groups
 unfolding counts_of
 groups_are_short s fours few =
     let sum = group_bytes-sum s.groups in
-    all_below group_bytes (λ (g : Group). IsFour g.kind) IsShortGroup (sum_by group_bytes s.groups) s.groups fours (omega arith) (λ g kind le. (kind, omega (arith, le, few, sum, sum-zero s.items, sum-one s.groups)))
+    all_below group_bytes IsFourGroup IsShortGroup (sum_by group_bytes s.groups) s.groups fours (omega arith) (λ g kind le. (kind, omega (arith, le, few, sum, sum-zero s.items, sum-one s.groups)))
 
 -- ---- the same by the boxes as they are laid
 
-infes_fit : (wide : Bool) (is : List Item) (top : ℕ) → AllByRecursion (λ (i : Item). IsFour i.kind) is → infes_size wide is ≤ top → 4 + top < 256 ^ 4 → AllByRecursion IsShortItem is
+infes_fit : (wide : Bool) (is : List Item) (top : ℕ) → AllByRecursion IsFourItem is → infes_size wide is ≤ top → 4 + top < 256 ^ 4
+    → AllByRecursion IsShortItem is
 infes_fit wide is top fours sum small =
-    all_below (λ (i : Item). length (infe_box wide (info_of i))) (λ (i : Item). IsFour i.kind) IsShortItem top is fours sum
+    all_below (infe_size wide) IsFourItem IsShortItem top is fours sum
     (λ i kind le. (kind, omega (arith, le, small, length-box (four "infe") (infe_body wide (info_of i)) refl, le-box_len (length (infe_body wide (info_of i))), infe_body-size wide i kind, ge-width wide)))
 
 -- twice what stands in a reference box has room for ids of four bytes
@@ -75,26 +82,29 @@ twice : (wide : Bool) (n : ℕ) → n * 4 ≤ 2 * (n * id_width wide)
 twice true n = omega arith
 twice false n = omega arith
 
-link_fits : (wide : Bool) (from : ℕ) (r : RefList) (top : ℕ) → IsFour r.kind → length (box r.kind (reference_body wide from r.to)) ≤ top → 14 + 2 * top < 256 ^ 4 → IsShortList r
+link_fits : (wide : Bool) (from : ℕ) (r : RefList) (top : ℕ) → IsFour r.kind → length (box r.kind (reference_body wide from r.to)) ≤ top
+    → 14 + 2 * top < 256 ^ 4 → IsShortList r
 link_fits wide from r top kind le small =
     (kind, omega (arith, le, small, length-box r.kind (reference_body wide from r.to) kind, le-box_len (length (reference_body wide from r.to)), length-reference_body wide from r.to, twice wide (length r.to)))
 
-links_fit : (wide : Bool) (is : List Item) (top : ℕ) → AllByRecursion (λ (i : Item). AllByRecursion (λ (r : RefList). IsFour r.kind) i.refs) is → links_size wide is ≤ top → 14 + 2 * top < 256 ^ 4
-    → AllByRecursion (λ (i : Item). AllByRecursion IsShortList i.refs) is
+links_fit : (wide : Bool) (is : List Item) (top : ℕ) → AllRefs IsFourList is
+    → links_size wide is ≤ top → 14 + 2 * top < 256 ^ 4
+    → AllRefs IsShortList is
 links_fit wide [] top fours sum small = tt
 links_fit wide (i ∷ is) top fours sum small =
     let size = links_size-cons wide i is in (
-      all_below (λ (r : RefList). length (box r.kind (reference_body wide i.id r.to))) (λ (r : RefList). IsFour r.kind) IsShortList top i.refs fours.0 (omega (arith, size, sum)) (λ r kind le. link_fits wide i.id r top kind le small),
+      all_below (λ (r : RefList). length (box r.kind (reference_body wide i.id r.to))) IsFourList IsShortList top i.refs fours.0 (omega (arith, size, sum)) (λ r kind le. link_fits wide i.id r top kind le small),
       links_fit wide is top fours.1 (omega (arith, size, sum)) small,
     )
 
-props_fit : (ps : List Prop) (top : ℕ) → AllByRecursion (λ (p : Prop). IsFour p.kind) ps → props_size ps ≤ top → top < 256 ^ 4 → AllByRecursion IsShortProp ps
+props_fit : (ps : List Prop) (top : ℕ) → AllByRecursion IsFourProp ps → props_size ps ≤ top → top < 256 ^ 4 → AllByRecursion IsShortProp ps
 props_fit ps top fours sum small =
-    all_below (λ (p : Prop). length (box p.kind p.body)) (λ (p : Prop). IsFour p.kind) IsShortProp top ps fours sum (λ p kind le. (kind, omega (arith, le, small, length-box p.kind p.body kind, le-box_len (length p.body))))
+    all_below prop_box_size IsFourProp IsShortProp top ps fours sum (λ p kind le. (kind, omega (arith, le, small, length-box p.kind p.body kind, le-box_len (length p.body))))
 
-groups_fit : (gs : List Group) (top : ℕ) → AllByRecursion (λ (g : Group). IsFour g.kind) gs → groups_size gs ≤ top → top < 256 ^ 4 → AllByRecursion IsShortGroup gs
+groups_fit : (gs : List Group) (top : ℕ) → AllByRecursion IsFourGroup gs → groups_size gs ≤ top → top < 256 ^ 4
+    → AllByRecursion IsShortGroup gs
 groups_fit gs top fours sum small =
-    all_below (λ (g : Group). length (group_box g)) (λ (g : Group). IsFour g.kind) IsShortGroup top gs fours sum
+    all_below group_size IsFourGroup IsShortGroup top gs fours sum
     (λ g kind le. (kind, omega (arith, le, small, length-box g.kind (group_body g) kind, le-box_len (length (group_body g)), group_body-size g)))
 
 -- ---- types
@@ -116,16 +126,18 @@ all_held : (P : Prop → Type 0) (hs : List Held) → AllByRecursion (λ (h : He
 all_held P [] all = tt
 all_held P (h ∷ hs) all = (all.0, all_held P hs all.1)
 
-all_props : (P : Prop → Type 0) (is : List Item) → AllByRecursion (λ (i : Item). AllByRecursion (λ (h : Held). P h.prop) i.props) is → AllByRecursion P (flat_map props_of is)
+all_props : (P : Prop → Type 0) (is : List Item) → AllProps P is
+    → AllByRecursion P (flat_map props_of is)
 all_props P [] all = tt
 all_props P (i ∷ is) all = all_append P (props_of i) (flat_map props_of is) (all_held P i.props all.0) (all_props P is all.1)
 
-pub all_in_table : (P : Prop → Type 0) (s : ItemStore) → AllByRecursion (λ (i : Item). AllByRecursion (λ (h : Held). P h.prop) i.props) s.items → AllByRecursion P (table_of s)
+pub all_in_table : (P : Prop → Type 0) (s : ItemStore) → AllProps P s.items
+    → AllByRecursion P (table_of s)
 unfolding table_of
 all_in_table P s all = all_folded P [] (flat_map props_of s.items) tt (all_props P s.items all)
 
-pub four_table : (s : ItemStore) → AreFours s → AllByRecursion (λ (p : Prop). IsFour p.kind) (table_of s)
-four_table s fours = all_in_table (λ (p : Prop). IsFour p.kind) s fours.props
+pub four_table : (s : ItemStore) → AreFours s → AllByRecursion IsFourProp (table_of s)
+four_table s fours = all_in_table IsFourProp s fours.props
 
 all_of : {A : Type 0} (Q P : A → Type 0) (xs : List A) → AllByRecursion Q xs → ((x : A) → Q x → P x) → AllByRecursion P xs
 all_of Q P [] good each = tt
@@ -133,14 +145,14 @@ all_of Q P (x ∷ xs) good each = (each x good.0, all_of Q P xs good.1 each)
 
 pub valid_fours : (s : ItemStore) → Valid s → AreFours s
 valid_fours s valid = record {
-  items = all_of (IsGoodItem s.items) (λ (i : Item). IsFour i.kind) s.items valid.items (λ i good. good.kind);
-  lists = all_of (IsGoodItem s.items) (λ (i : Item). AllByRecursion (λ (r : RefList). IsFour r.kind) i.refs) s.items valid.items (λ i good. all_of (IsGoodRef s.items) (λ (r : RefList). IsFour r.kind) i.refs good.refs (λ r ref. ref.kind));
+  items = all_of (IsGoodItem s.items) IsFourItem s.items valid.items (λ i good. good.kind);
+  lists = all_of (IsGoodItem s.items) (λ (i : Item). AllByRecursion IsFourList i.refs) s.items valid.items (λ i good. all_of (IsGoodRef s.items) IsFourList i.refs good.refs (λ r ref. ref.kind));
   props = all_of (IsGoodItem s.items) (λ (i : Item). AllByRecursion (λ (h : Held). IsFour h.prop.kind) i.props) s.items valid.items (λ i good. good.prop_kinds);
-  groups = all_of (IsGoodGroup s.items) (λ (g : Group). IsFour g.kind) s.groups valid.groups (λ g good. good.kind);
+  groups = all_of (IsGoodGroup s.items) IsFourGroup s.groups valid.groups (λ g good. good.kind);
 }
 
 -- the lists of items that are good in all else are short
-pub lists_are_short : (s : ItemStore) → AllByRecursion (IsGoodItem s.items) s.items → AllByRecursion (λ (i : Item). AllByRecursion IsShortList i.refs) s.items
+pub lists_are_short : (s : ItemStore) → AllByRecursion (IsGoodItem s.items) s.items → AllRefs IsShortList s.items
 lists_are_short s good =
     all_of (IsGoodItem s.items) (λ (i : Item). AllByRecursion IsShortList i.refs) s.items good (λ i item. all_of (IsGoodRef s.items) IsShortList i.refs item.refs (λ r ref. (ref.kind, omega (arith, ref.links))))
 
@@ -161,7 +173,8 @@ record AreWithin (inner : Inner) (top : ℕ) : Type 0 where
   props : inner.props ≤ top
   groups : inner.groups ≤ top
 
-within-meta : (wide : Bool) (n : ℕ) (c : Counts) (b : Inner) (total : ℕ) → total ≡ meta_size_by wide 8 n c b → (c.links ≡ 0 → b.links ≡ 0) → (c.groups ≡ 0 → b.groups ≡ 0) → AreWithin b total
+within-meta : (wide : Bool) (n : ℕ) (c : Counts) (b : Inner) (total : ℕ) → total ≡ meta_size_by wide 8 n c b → (c.links ≡ 0 → b.links ≡ 0)
+    → (c.groups ≡ 0 → b.groups ≡ 0) → AreWithin b total
 within-meta wide n c b total is no_links no_groups =
     let meta = box_holds total _ is in
     let iinf = le-box_len (4 + id_width wide + b.infes) in
@@ -192,14 +205,15 @@ no_links-laid : (s : ItemStore) (wide : Bool) → (counts_of s).links ≡ 0 → 
 no_links-laid s wide none = sum-none (λ (b : RefBox). length (reference_box wide b)) (all_boxes s.items) (omega (arith, none, (counts_are s).links))
 
 no_groups-laid : (s : ItemStore) → (counts_of s).groups ≡ 0 → groups_size s.groups ≡ 0
-no_groups-laid s none = sum-none (λ (g : Group). length (group_box g)) s.groups (omega (arith, none, (counts_are s).groups))
+no_groups-laid s none = sum-none group_size s.groups (omega (arith, none, (counts_are s).groups))
 
 no_links-counted : (s : ItemStore) (wide : Bool) → (counts_of s).links ≡ 0 → short_links wide (counts_of s) ≡ 0
 unfolding counts_of
 no_links-counted s wide none =
     let zero_sum = sum-zero s.groups in
     let targets : sum_by (λ (i : Item). targets_of i.refs) s.items + sum_by (λ (g : Group). 0) s.groups ≡ 0 = omega (arith, zero_sum, no_targets s.items (omega (arith, none))) in
-    ap (λ n. n * (10 + id_width wide) + (counts_of s).targets * id_width wide) none ∙ ap (λ n. 0 * (10 + id_width wide) + n * id_width wide) targets ∙ omega arith
+    ap (λ n. n * (10 + id_width wide) + (counts_of s).targets * id_width wide) none ∙ ap (λ n. 0 * (10 + id_width wide) + n * id_width wide) targets
+    ∙ omega arith
 
 no_groups-counted : (s : ItemStore) → (counts_of s).groups ≡ 0 → short_groups (counts_of s) ≡ 0
 unfolding counts_of
@@ -212,7 +226,7 @@ no_groups-counted s none =
 -- the boxes inside others are short
 record AreShort (s : ItemStore) : Type 0 where
   infes : AllByRecursion IsShortItem s.items
-  links : AllByRecursion (λ (i : Item). AllByRecursion IsShortList i.refs) s.items
+  links : AllRefs IsShortList s.items
   props : AllByRecursion IsShortProp (table_of s)
   groups : AllByRecursion IsShortGroup s.groups
 

@@ -19,7 +19,8 @@ sum_here f false x xs = omega arith
 
 sum-filter : {A : Type 0} (f : A → ℕ) (p : A → Bool) (xs : List A) → sum_by f (filter p xs) ≡ sum_by (λ x. cond (p x) (f x) 0) xs
 sum-filter f p [] = refl
-sum-filter f p (x ∷ xs) = sum_here f (p x) x (filter p xs) ∙ ap (λ n. cond (p x) (f x) 0 + n) (sum-filter f p xs) ∙ sym (sum_by-cons (λ y. cond (p y) (f y) 0) x xs)
+sum-filter f p (x ∷ xs) =
+    sum_here f (p x) x (filter p xs) ∙ ap (λ n. cond (p x) (f x) 0 + n) (sum-filter f p xs) ∙ sym (sum_by-cons (λ y. cond (p y) (f y) 0) x xs)
 
 abbrev AreFrom : ℕ → List Item → Type 0
 AreFrom low is = AllByRecursion (λ (j : Item). low ≤ j.id) is
@@ -59,14 +60,16 @@ none_inside id [] from = refl
 none_inside id (j ∷ js) from =
     omega (arith, sum_by-cons (inside_before id) j js, and-false (in_idat j) (ltb j.id id) (length j.bytes) (le-ltb j.id id from.0), none_inside id js from.1)
 
-inside-counted : (low : ℕ) (is : List Item) (k : ℕ) (i : Item) → RisesFrom ◌<◌ low (ids_of is) → slice_get is k ≡ Some i → sum_by (inside_before i.id) is ≡ sum_by inside (take k is)
+inside-counted : (low : ℕ) (is : List Item) (k : ℕ) (i : Item) → RisesFrom ◌<◌ low (ids_of is) → slice_get is k ≡ Some i
+    → sum_by (inside_before i.id) is ≡ sum_by inside (take k is)
 inside-counted low [] k i rises here = absurd cc
 inside-counted low (j ∷ js) zero i rises here = none_inside i.id (j ∷ js) (first_is_least low i j js (some_is here) rises)
 inside-counted low (j ∷ js) (suc k) i rises here =
     let before = lt-ltb j.id i.id (comes_first low j js k i rises here) in
     omega (arith, sum_by-cons (inside_before i.id) j js, sum_by-cons inside j (take k js), and-true (in_idat j) (ltb j.id i.id) (length j.bytes) before, inside-counted j.id js k i rises.1 here)
 
-pub idat_offset-counted : (is : List Item) (k : ℕ) (i : Item) → RisesFrom ◌<◌ 0 (ids_of is) → slice_get is k ≡ Some i → idat_offset is i ≡ sum_by inside (take k is)
+pub idat_offset-counted : (is : List Item) (k : ℕ) (i : Item) → RisesFrom ◌<◌ 0 (ids_of is) → slice_get is k ≡ Some i
+    → idat_offset is i ≡ sum_by inside (take k is)
 idat_offset-counted is k i rises here = sym (sum-bytes (λ (j : Item). in_idat j && ltb j.id i.id) is) ∙ inside-counted 0 is k i rises here
 
 -- ---- mdat
@@ -87,14 +90,16 @@ all_outside id (j ∷ js) from =
     let here : outside_from id j ≡ outside j = ap (λ b. cond (is_written j) (cond b (length j.bytes) 0) 0) (le-leb id j.id from.0) ∙ sym (mdat-here j) in
     omega (arith, sum_by-cons (outside_from id) j js, sum_by-cons outside j js, here, all_outside id js from.1)
 
-outside-counted : (low : ℕ) (is : List Item) (k : ℕ) (i : Item) → RisesFrom ◌<◌ low (ids_of is) → slice_get is k ≡ Some i → sum_by (outside_from i.id) is + sum_by outside (take k is) ≡ sum_by outside is
+outside-counted : (low : ℕ) (is : List Item) (k : ℕ) (i : Item) → RisesFrom ◌<◌ low (ids_of is) → slice_get is k ≡ Some i
+    → sum_by (outside_from i.id) is + sum_by outside (take k is) ≡ sum_by outside is
 outside-counted low [] k i rises here = absurd cc
 outside-counted low (j ∷ js) zero i rises here = omega (arith, all_outside i.id (j ∷ js) (first_is_least low i j js (some_is here) rises))
 outside-counted low (j ∷ js) (suc k) i rises here =
     let before : outside_from i.id j ≡ 0 = ap (λ b. cond (is_written j) (cond b (length j.bytes) 0) 0) (lt-leb i.id j.id (comes_first low j js k i rises here)) ∙ nothing (is_written j) 0 in
     omega (arith, sum_by-cons (outside_from i.id) j js, sum_by-cons outside j (take k js), sum_by-cons outside j js, before, outside-counted j.id js k i rises.1 here)
 
-pub mdat_offset-counted : (file_len : ℕ) (is : List Item) (k : ℕ) (i : Item) → RisesFrom ◌<◌ 0 (ids_of is) → slice_get is k ≡ Some i → sum_by outside is ≤ file_len
+pub mdat_offset-counted : (file_len : ℕ) (is : List Item) (k : ℕ) (i : Item) → RisesFrom ◌<◌ 0 (ids_of is) → slice_get is k ≡ Some i
+    → sum_by outside is ≤ file_len
     → mdat_offset own file_len is i ≡ file_len - sum_by outside is + sum_by outside (take k is)
 mdat_offset-counted file_len is k i rises here within =
     let from : length (bytes_in (filter (λ (j : Item). leb i.id j.id) (written own is))) ≡ sum_by (outside_from i.id) is =
@@ -110,4 +115,5 @@ offsets_are_counted s file_len k i rises within here =
     let out : mdat_offset own file_len s.items i ≡ file_len - (counts_of s).mdat + (counts_before k s.items).mdat =
     omega (arith, mdat_offset-counted file_len s.items k i rises here (omega (arith, within, all)), all)
     in
-    ap (λ n. cond (in_idat i) n (mdat_offset own file_len s.items i)) (idat_offset-counted s.items k i rises here) ∙ ap (λ n. cond (in_idat i) (counts_before k s.items).idat n) out
+    ap (λ n. cond (in_idat i) n (mdat_offset own file_len s.items i)) (idat_offset-counted s.items k i rises here)
+    ∙ ap (λ n. cond (in_idat i) (counts_before k s.items).idat n) out

@@ -12,7 +12,7 @@ use Rattle.hf_links.specs.Grpl.{group_body, group_box}
 use Rattle.hf_links.specs.Iref.{reference_body, reference_box}
 use Rattle.hf_store.specs.Counts.{strings_of, targets_of, counts_of}
 use Rattle.hf_store.specs.Layout.{info_of, item_boxes, all_boxes}
-use Rattle.hf_store.specs.Sizes.{infes_size, links_size, groups_size, IsShortItem, IsShortList, IsShortProp, IsShortGroup, InfesAreCounted, LinksAreCounted, PropsAreCounted, GroupsAreCounted}
+use Rattle.hf_store.specs.Sizes.{infe_size, prop_box_size, group_size, AllRefs, AllProps, IsFourItem, IsFourList, IsFourProp, IsFourGroup, infes_size, links_size, groups_size, IsShortItem, IsShortList, IsShortProp, IsShortGroup, InfesAreCounted, LinksAreCounted, PropsAreCounted, GroupsAreCounted}
 use Rattle.hf_store.specs.Store.{Prop, RefList, Item, Group}
 use Rattle.hf_store.specs.Valid.{IsFour}
 use Rattle.hf_store.proofs.BoxLengths.{length-box, box_len-short}
@@ -44,9 +44,11 @@ few_links : (wide : Bool) (n : ℕ) → 14 + n * 4 < 256 ^ 4 → 8 + (id_width w
 few_links true n few = omega (arith, few)
 few_links false n few = omega (arith, few)
 
-pub link-short : (wide : Bool) (from : ℕ) (r : RefList) → IsShortList r → length (box r.kind (reference_body wide from r.to)) ≡ 10 + id_width wide + length r.to * id_width wide
+pub link-short : (wide : Bool) (from : ℕ) (r : RefList) → IsShortList r
+    → length (box r.kind (reference_body wide from r.to)) ≡ 10 + id_width wide + length r.to * id_width wide
 link-short wide from r short =
-    length-box r.kind (reference_body wide from r.to) short.0 ∙ ap box_len (length-reference_body wide from r.to) ∙ box_len-short _ (few_links wide (length r.to) short.1) ∙ omega arith
+    length-box r.kind (reference_body wide from r.to) short.0 ∙ ap box_len (length-reference_body wide from r.to)
+    ∙ box_len-short _ (few_links wide (length r.to) short.1) ∙ omega arith
 
 pub group_body-size : (g : Group) → length (group_body g) ≡ 12 + length g.entities * 4 + length g.tail
 unfolding group_body
@@ -65,7 +67,7 @@ prop-short p short = length-box p.kind p.body short.0 ∙ box_len-short (length 
 infes_sum : (wide : Bool) (is : List Item) → AllByRecursion IsShortItem is → infes_size wide is ≡ length is * (18 + id_width wide) + sum_by strings_of is
 infes_sum wide [] short = omega arith
 infes_sum wide (i ∷ is) short =
-    let size = sum_by-cons (λ (j : Item). length (infe_box wide (info_of j))) i is in
+    let size = sum_by-cons (infe_size wide) i is in
     let strings = sum_by-cons strings_of i is in
     omega (arith, size, strings, infe-short wide i short.0, infes_sum wide is short.1)
 
@@ -84,11 +86,13 @@ links_of_one wide from (r ∷ rs) short =
     let targets : targets_of (r ∷ rs) * id_width wide ≡ (length r.to + targets_of rs) * id_width wide = ap (λ n. n * id_width wide) (sum_by-cons (λ (q : RefList). length q.to) r rs) in
     omega (arith, size, targets, link-short wide from r short.0, links_of_one wide from rs short.1)
 
-pub links_size-cons : (wide : Bool) (i : Item) (is : List Item) → links_size wide (i ∷ is) ≡ sum_by (λ (r : RefList). length (box r.kind (reference_body wide i.id r.to))) i.refs + links_size wide is
+pub links_size-cons : (wide : Bool) (i : Item) (is : List Item)
+    → links_size wide (i ∷ is) ≡ sum_by (λ (r : RefList). length (box r.kind (reference_body wide i.id r.to))) i.refs + links_size wide is
 links_size-cons wide i is =
-    sum_by-append (λ (b : RefBox). length (reference_box wide b)) (item_boxes i.id i.refs) (all_boxes is) ∙ ap (λ n. n + links_size wide is) (sum-map (λ (b : RefBox). length (reference_box wide b)) (λ (r : RefList). record { kind = r.kind; from = i.id; to = r.to }) i.refs)
+    sum_by-append (λ (b : RefBox). length (reference_box wide b)) (item_boxes i.id i.refs) (all_boxes is)
+    ∙ ap (λ n. n + links_size wide is) (sum-map (λ (b : RefBox). length (reference_box wide b)) (λ (r : RefList). record { kind = r.kind; from = i.id; to = r.to }) i.refs)
 
-links_sum : (wide : Bool) (is : List Item) → AllByRecursion (λ (i : Item). AllByRecursion IsShortList i.refs) is
+links_sum : (wide : Bool) (is : List Item) → AllRefs IsShortList is
     → links_size wide is ≡ sum_by (λ (i : Item). length i.refs) is * (10 + id_width wide) + sum_by (λ (i : Item). targets_of i.refs) is * id_width wide
 links_sum wide [] short = omega arith
 links_sum wide (i ∷ is) short =
@@ -104,17 +108,19 @@ links_are_counted s wide short =
     let links = sum_by (λ (i : Item). length i.refs) s.items in
     let targets = sum_by (λ (i : Item). targets_of i.refs) s.items in
     let more : (n : ℕ) → n ≡ n + sum_by (λ (g : Group). 0) s.groups = λ n. omega (arith, none) in
-    links_sum wide s.items short ∙ ap (λ n. n * (10 + id_width wide) + targets * id_width wide) (more links) ∙ ap (λ n. (links + sum_by (λ (g : Group). 0) s.groups) * (10 + id_width wide) + n * id_width wide) (more targets)
+    links_sum wide s.items short ∙ ap (λ n. n * (10 + id_width wide) + targets * id_width wide) (more links)
+    ∙ ap (λ n. (links + sum_by (λ (g : Group). 0) s.groups) * (10 + id_width wide) + n * id_width wide) (more targets)
 
 pub props_are_counted : PropsAreCounted
 props_are_counted [] short = refl
 props_are_counted (p ∷ ps) short =
-    omega (arith, sum_by-cons (λ (q : Prop). length (box q.kind q.body)) p ps, sum_by-cons (λ (q : Prop). 8 + length q.body) p ps, prop-short p short.0, props_are_counted ps short.1)
+    omega (arith, sum_by-cons prop_box_size p ps, sum_by-cons (λ (q : Prop). 8 + length q.body) p ps, prop-short p short.0, props_are_counted ps short.1)
 
-groups_sum : (gs : List Group) → AllByRecursion IsShortGroup gs → groups_size gs ≡ length gs * 20 + sum_by (λ (g : Group). length g.entities) gs * 4 + sum_by (λ (g : Group). length g.tail) gs
+groups_sum : (gs : List Group) → AllByRecursion IsShortGroup gs
+    → groups_size gs ≡ length gs * 20 + sum_by (λ (g : Group). length g.entities) gs * 4 + sum_by (λ (g : Group). length g.tail) gs
 groups_sum [] short = omega arith
 groups_sum (g ∷ gs) short =
-    omega (arith, sum_by-cons (λ (h : Group). length (group_box h)) g gs, sum_by-cons (λ (h : Group). length h.entities) g gs, sum_by-cons (λ (h : Group). length h.tail) g gs, group-short g short.0, groups_sum gs short.1)
+    omega (arith, sum_by-cons group_size g gs, sum_by-cons (λ (h : Group). length h.entities) g gs, sum_by-cons (λ (h : Group). length h.tail) g gs, group-short g short.0, groups_sum gs short.1)
 
 pub groups_are_counted : GroupsAreCounted
 unfolding counts_of

@@ -41,10 +41,12 @@ sum-map f g (x ∷ xs) = sum_by-cons f (g x) (map g xs) ∙ ap (λ n. f (g x) + 
 
 -- ---- boxes that may be absent
 
-pub length-box_if_any : {A : Type 0} (kind : FourCc) (body : List A → List ℕ) (xs : List A) → length kind.0 ≡ 4 → length (box_if_any kind body xs) ≡ cond (length xs == 0) 0 (box_len (length (body xs)))
+pub length-box_if_any : {A : Type 0} (kind : FourCc) (body : List A → List ℕ) (xs : List A) → length kind.0 ≡ 4
+    → length (box_if_any kind body xs) ≡ cond (length xs == 0) 0 (box_len (length (body xs)))
 unfolding box_if_any
 length-box_if_any kind body [] four = refl
-length-box_if_any kind body (x ∷ xs) four = length-box kind (body (x ∷ xs)) four ∙ ap (λ b. cond b 0 (box_len (length (body (x ∷ xs))))) (sym (eqb-suc-zero (length xs)))
+length-box_if_any kind body (x ∷ xs) four =
+    length-box kind (body (x ∷ xs)) four ∙ ap (λ b. cond b 0 (box_len (length (body (x ∷ xs))))) (sym (eqb-suc-zero (length xs)))
 
 some_bytes : (bytes more : List ℕ) → has_bytes bytes ≡ true → (length bytes + length more == 0) ≡ false
 some_bytes [] more some = absurd cc
@@ -53,7 +55,8 @@ some_bytes (b ∷ bs) more some = ap (λ n. n == 0) (omega arith) ∙ eqb-suc-ze
 in_idat-some : (i : Item) → in_idat i ≡ true → has_bytes i.bytes ≡ true
 in_idat-some i inside = (and_parts _ _ (and_parts _ _ inside).0).1
 
-idat_first : (i : Item) (is : List Item) → has_bytes i.bytes ≡ true → length (box_if_any (four "idat") bytes_in (i ∷ is)) ≡ cond (length (bytes_in (i ∷ is)) == 0) 0 (box_len (length (bytes_in (i ∷ is))))
+idat_first : (i : Item) (is : List Item) → has_bytes i.bytes ≡ true
+    → length (box_if_any (four "idat") bytes_in (i ∷ is)) ≡ cond (length (bytes_in (i ∷ is)) == 0) 0 (box_len (length (bytes_in (i ∷ is))))
 unfolding bytes_in
 idat_first i is some =
     let more = flat_map (λ (j : Item). j.bytes) is in
@@ -61,7 +64,8 @@ idat_first i is some =
     length-box_if_any (four "idat") bytes_in (i ∷ is) refl ∙ ap (λ b. cond b 0 (box_len (length (i.bytes ++ more)))) (eqb-suc-zero (length is) ∙ sym test)
 
 -- `idat` is absent where it would have no bytes
-pub length-idat : (is : List Item) → length (box_if_any (four "idat") bytes_in (filter in_idat is)) ≡ cond (length (bytes_in (filter in_idat is)) == 0) 0 (box_len (length (bytes_in (filter in_idat is))))
+pub length-idat : (is : List Item)
+    → length (box_if_any (four "idat") bytes_in (filter in_idat is)) ≡ cond (length (bytes_in (filter in_idat is)) == 0) 0 (box_len (length (bytes_in (filter in_idat is))))
 length-idat [] = unfold box_if_any bytes_in in refl
 length-idat (i ∷ is) =
     elim (cases_Bool (in_idat i)) [
@@ -115,13 +119,18 @@ length-assocs wide two_bytes table (i ∷ is) =
 boxed : (kind : FourCc) (body : List ℕ) (n : ℕ) → length kind.0 ≡ 4 → length body ≡ n → length (box kind body) ≡ box_len n
 boxed kind body n four is = length-box kind body four ∙ ap box_len is
 
-pub iinf-counted : (wide : Bool) (s : ItemStore) → length (box (four "iinf") (iinf_body wide (infos_of s.items))) ≡ box_len (4 + id_width wide + infes_size wide s.items)
-iinf-counted wide s = boxed (four "iinf") (iinf_body wide (infos_of s.items)) _ refl (length-iinf_body wide (infos_of s.items) ∙ ap (λ n. 4 + id_width wide + n) (length-infes wide s.items))
+pub iinf-counted : (wide : Bool) (s : ItemStore)
+    → length (box (four "iinf") (iinf_body wide (infos_of s.items))) ≡ box_len (4 + id_width wide + infes_size wide s.items)
+iinf-counted wide s =
+    boxed (four "iinf") (iinf_body wide (infos_of s.items)) _ refl (length-iinf_body wide (infos_of s.items) ∙ ap (λ n. 4 + id_width wide + n) (length-infes wide s.items))
 
-pub iref-counted : (wide : Bool) (s : ItemStore) → length (box_if_any (four "iref") (iref_body wide) (all_boxes s.items)) ≡ cond ((counts_of s).links == 0) 0 (box_len (4 + links_size wide s.items))
+pub iref-counted : (wide : Bool) (s : ItemStore)
+    → length (box_if_any (four "iref") (iref_body wide) (all_boxes s.items)) ≡ cond ((counts_of s).links == 0) 0 (box_len (4 + links_size wide s.items))
 iref-counted wide s =
     let boxes = all_boxes s.items in
-    length-box_if_any (four "iref") (iref_body wide) boxes refl ∙ ap (λ n. cond (n == 0) 0 (box_len (length (iref_body wide boxes)))) (sym (counts_are s).links) ∙ ap (λ n. cond ((counts_of s).links == 0) 0 (box_len n)) (length-links wide boxes)
+    length-box_if_any (four "iref") (iref_body wide) boxes refl
+    ∙ ap (λ n. cond (n == 0) 0 (box_len (length (iref_body wide boxes)))) (sym (counts_are s).links)
+    ∙ ap (λ n. cond ((counts_of s).links == 0) 0 (box_len n)) (length-links wide boxes)
 
 pub ipco-counted : (s : ItemStore) → length (box (four "ipco") (ipco_body (table_of s))) ≡ box_len (props_size (table_of s))
 ipco-counted s = boxed (four "ipco") (ipco_body (table_of s)) _ refl (length-props (table_of s))
@@ -130,28 +139,34 @@ picks_sum : (s : ItemStore) → (counts_of s).picks ≡ sum_by (λ (i : Item). l
 unfolding counts_of
 picks_sum s = omega (arith, sum-zero s.groups)
 
-pub ipma-counted : (wide : Bool) (s : ItemStore) → length (box (four "ipma") (ipma_body wide (is_long_table (table_of s)) (assocs_of (table_of s) s.items))) ≡ ipma_size wide (length (table_of s)) (counts_of s)
+pub ipma-counted : (wide : Bool) (s : ItemStore)
+    → length (box (four "ipma") (ipma_body wide (is_long_table (table_of s)) (assocs_of (table_of s) s.items))) ≡ ipma_size wide (length (table_of s)) (counts_of s)
 ipma-counted wide s =
     let two_bytes = is_long_table (table_of s) in
     let c = counts_of s in
     let assocs : length (flat_map (ipma_entry wide two_bytes) (assocs_of (table_of s) s.items)) ≡ c.holders * (1 + id_width wide) + c.picks * (1 + bit two_bytes) =
-    length-assocs wide two_bytes (table_of s) s.items ∙ ap (λ n. n * (1 + id_width wide) + sum_by (λ (i : Item). length i.props) s.items * (1 + bit two_bytes)) (sym (counts_are s).holders) ∙ ap (λ n. c.holders * (1 + id_width wide) + n * (1 + bit two_bytes)) (sym (picks_sum s))
+    length-assocs wide two_bytes (table_of s) s.items
+    ∙ ap (λ n. n * (1 + id_width wide) + sum_by (λ (i : Item). length i.props) s.items * (1 + bit two_bytes)) (sym (counts_are s).holders)
+    ∙ ap (λ n. c.holders * (1 + id_width wide) + n * (1 + bit two_bytes)) (sym (picks_sum s))
     in
     boxed (four "ipma") (ipma_body wide two_bytes (assocs_of (table_of s) s.items)) _ refl (omega (arith, length-ipma_body wide two_bytes (assocs_of (table_of s) s.items), assocs))
 
-pub iprp-counted : (wide : Bool) (s : ItemStore) → length (box (four "iprp") (iprp_body wide (iprp_of s))) ≡ box_len (box_len (props_size (table_of s)) + ipma_size wide (length (table_of s)) (counts_of s))
+pub iprp-counted : (wide : Bool) (s : ItemStore)
+    → length (box (four "iprp") (iprp_body wide (iprp_of s))) ≡ box_len (box_len (props_size (table_of s)) + ipma_size wide (length (table_of s)) (counts_of s))
 unfolding iprp_body
 iprp-counted wide s =
     boxed (four "iprp") (iprp_body wide (iprp_of s)) _ refl (length-append (box (four "ipco") (ipco_body (table_of s))) _ ∙ ap (λ n. n + length (box (four "ipma") (ipma_body wide (is_long_table (table_of s)) (assocs_of (table_of s) s.items)))) (ipco-counted s) ∙ ap (λ n. box_len (props_size (table_of s)) + n) (ipma-counted wide s))
 
 pub grpl-counted : (s : ItemStore) → length (box_if_any (four "grpl") grpl_body s.groups) ≡ cond ((counts_of s).groups == 0) 0 (box_len (groups_size s.groups))
 grpl-counted s =
-    length-box_if_any (four "grpl") grpl_body s.groups refl ∙ ap (λ n. cond (n == 0) 0 (box_len (length (grpl_body s.groups)))) (sym (counts_are s).groups) ∙ ap (λ n. cond ((counts_of s).groups == 0) 0 (box_len n)) (length-groups s.groups)
+    length-box_if_any (four "grpl") grpl_body s.groups refl ∙ ap (λ n. cond (n == 0) 0 (box_len (length (grpl_body s.groups)))) (sym (counts_are s).groups)
+    ∙ ap (λ n. cond ((counts_of s).groups == 0) 0 (box_len n)) (length-groups s.groups)
 
 pub idat-counted : (s : ItemStore) → length (box_if_any (four "idat") bytes_in (filter in_idat s.items)) ≡ idat_size (counts_of s)
 idat-counted s = length-idat s.items ∙ ap (λ n. cond (n == 0) 0 (box_len n)) (sym (counts_are s).idat)
 
-pub iloc-counted : (wide : Bool) (s : ItemStore) (home : Homes) (w file_len : ℕ) → length (box (four "iloc") (iloc_body wide w (entries_of home file_len s.items))) ≡ iloc_size wide w (counts_of s)
+pub iloc-counted : (wide : Bool) (s : ItemStore) (home : Homes) (w file_len : ℕ)
+    → length (box (four "iloc") (iloc_body wide w (entries_of home file_len s.items))) ≡ iloc_size wide w (counts_of s)
 iloc-counted wide s home w file_len =
     boxed (four "iloc") (iloc_body wide w (entries_of home file_len s.items)) _ refl (length-iloc_body home wide w file_len s.items ∙ ap (λ n. 6 + id_width wide + n * (6 + id_width wide + (w + w))) (sym (counts_are s).located))
 
@@ -165,7 +180,8 @@ pitm-size : (wide : Bool) (id : ℕ) → box_len (length (pitm_body wide id)) �
 pitm-size true id = ap box_len (length-pitm_body true id) ∙ box_len-short 8 (omega arith)
 pitm-size false id = ap box_len (length-pitm_body false id) ∙ box_len-short 6 (omega arith)
 
-pub meta-counted : (s : ItemStore) (home : Homes) (w file_len : ℕ) → length (box (four "meta") (meta_body home w file_len s)) ≡ meta_size_by (is_wide s.items) w (length (table_of s)) (counts_of s) (inner_of s)
+pub meta-counted : (s : ItemStore) (home : Homes) (w file_len : ℕ)
+    → length (box (four "meta") (meta_body home w file_len s)) ≡ meta_size_by (is_wide s.items) w (length (table_of s)) (counts_of s) (inner_of s)
 unfolding inner_of meta_body_len
 meta-counted s home w file_len =
     let wide = is_wide s.items in
@@ -175,7 +191,8 @@ meta-counted s home w file_len =
     let iloc : box_len (6 + id_width wide + length (with_bytes s.items) * (6 + id_width wide + (w + w))) ≡ iloc_size wide w (counts_of s) = ap (λ n. box_len (6 + id_width wide + n * (6 + id_width wide + (w + w)))) (sym (counts_are s).located) in
     boxed (four "meta") (meta_body home w file_len s) _ refl (omega (arith, length-meta_body home w file_len s, length-meta_front s, hdlr, pitm-size wide s.primary, iinf, iref-counted wide s, iprp, grpl-counted s, idat-counted s, iloc))
 
-pub file-counted : (s : ItemStore) (w file_len : ℕ) → IsFour s.brands.major → length (laid own w file_len s) ≡ file_size_by (is_wide s.items) w (length (table_of s)) s.brands (counts_of s) (inner_of s)
+pub file-counted : (s : ItemStore) (w file_len : ℕ) → IsFour s.brands.major
+    → length (laid own w file_len s) ≡ file_size_by (is_wide s.items) w (length (table_of s)) s.brands (counts_of s) (inner_of s)
 unfolding laid
 file-counted s w file_len major = simp length-append (omega (arith, ftyp-counted s major, meta-counted s own w file_len, mdat-counted s))
 

@@ -13,7 +13,8 @@ offset_by file_len mdat before i = if in_idat i then before.idat else file_len -
 
 -- each item has the offset that the counts of those before it tell
 abbrev pub OffsetsAreCounted : Type 0
-OffsetsAreCounted = (s : ItemStore) (file_len k : ℕ) (i : Item) → RisesFrom ◌<◌ 0 (ids_of s.items) → (counts_of s).mdat ≤ file_len → slice_get s.items k ≡ Some i
+OffsetsAreCounted =
+    (s : ItemStore) (file_len k : ℕ) (i : Item) → RisesFrom ◌<◌ 0 (ids_of s.items) → (counts_of s).mdat ≤ file_len → slice_get s.items k ≡ Some i
     → offset_of own file_len s.items i ≡ offset_by file_len (counts_of s).mdat (counts_before k s.items) i
 
 -- what a loop over the items counts: nothing before the first one

@@ -29,17 +29,26 @@ pub record Inner : Type 0 where
   pub props : ℕ
   pub groups : ℕ
 
+abbrev pub infe_size : Bool → Item → ℕ
+infe_size wide i = length (infe_box wide (info_of i))
+
 abbrev pub infes_size : Bool → List Item → ℕ
-infes_size wide is = sum_by (λ (i : Item). length (infe_box wide (info_of i))) is
+infes_size wide is = sum_by (infe_size wide) is
 
 abbrev pub links_size : Bool → List Item → ℕ
 links_size wide is = sum_by (λ (b : RefBox). length (reference_box wide b)) (all_boxes is)
 
+abbrev pub prop_box_size : Prop → ℕ
+prop_box_size p = length (box p.kind p.body)
+
 abbrev pub props_size : List Prop → ℕ
-props_size ps = sum_by (λ (p : Prop). length (box p.kind p.body)) ps
+props_size ps = sum_by prop_box_size ps
+
+abbrev pub group_size : Group → ℕ
+group_size g = length (group_box g)
 
 abbrev pub groups_size : List Group → ℕ
-groups_size gs = sum_by (λ (g : Group). length (group_box g)) gs
+groups_size gs = sum_by group_size gs
 
 -- those of a store, as they are laid, whatever their headers
 unfoldable pub inner_of : ItemStore → Inner
@@ -104,9 +113,18 @@ abbrev pub iloc_size : Bool → ℕ → Counts → ℕ
 iloc_size wide w c = box_len (6 + id_width wide + c.located * (6 + id_width wide + (w + w)))
 
 -- version and flags, `hdlr`, `pitm`, and the others
+abbrev pub meta_body_size : Bool → ℕ → ℕ → Counts → Inner → ℕ
+meta_body_size wide w n c inner =
+    (4 + 33 + (12 + id_width wide))
+    + iinf_size wide inner
+    + iref_size c inner
+    + iprp_size wide n c inner
+    + grpl_size c inner
+    + idat_size c
+    + iloc_size wide w c
+
 abbrev pub meta_size_by : Bool → ℕ → ℕ → Counts → Inner → ℕ
-meta_size_by wide w n c inner =
-    box_len (4 + 33 + (12 + id_width wide) + iinf_size wide inner + iref_size c inner + iprp_size wide n c inner + grpl_size c inner + idat_size c + iloc_size wide w c)
+meta_size_by wide w n c inner = box_len (meta_body_size wide w n c inner)
 
 abbrev pub mdat_size : Counts → ℕ
 mdat_size c = box_len c.mdat
@@ -139,6 +157,28 @@ pub record AreSizes (s : ItemStore) (wide : Bool) (n : ℕ) (c : Counts) (b : In
 abbrev pub SizesAreCounted : Type 0
 SizesAreCounted = (s : ItemStore) → AreSizes s (is_wide s.items) (length (table_of s)) (counts_of s) (inner_of s)
 
+-- ---- what holds of all
+
+-- of the reference lists of these items
+abbrev pub AllRefs : (RefList → Type 0) → List Item → Type 0
+AllRefs P is = AllByRecursion (λ (i : Item). AllByRecursion P i.refs) is
+
+-- of their properties
+abbrev pub AllProps : (Prop → Type 0) → List Item → Type 0
+AllProps P is = AllByRecursion (λ (i : Item). AllByRecursion (λ (h : Held). P h.prop) i.props) is
+
+abbrev pub IsFourItem : Item → Type 0
+IsFourItem i = IsFour i.kind
+
+abbrev pub IsFourList : RefList → Type 0
+IsFourList r = IsFour r.kind
+
+abbrev pub IsFourProp : Prop → Type 0
+IsFourProp p = IsFour p.kind
+
+abbrev pub IsFourGroup : Group → Type 0
+IsFourGroup g = IsFour g.kind
+
 -- ---- inner boxes with headers of eight bytes
 
 -- whether ids take two bytes or four
@@ -159,7 +199,8 @@ abbrev pub InfesAreCounted : Type 0
 InfesAreCounted = (s : ItemStore) (wide : Bool) → AllByRecursion IsShortItem s.items → infes_size wide s.items ≡ short_infes wide (counts_of s)
 
 abbrev pub LinksAreCounted : Type 0
-LinksAreCounted = (s : ItemStore) (wide : Bool) → AllByRecursion (λ (i : Item). AllByRecursion IsShortList i.refs) s.items → links_size wide s.items ≡ short_links wide (counts_of s)
+LinksAreCounted =
+    (s : ItemStore) (wide : Bool) → AllRefs IsShortList s.items → links_size wide s.items ≡ short_links wide (counts_of s)
 
 abbrev pub PropsAreCounted : Type 0
 PropsAreCounted = (ps : List Prop) → AllByRecursion IsShortProp ps → props_size ps ≡ short_props ps
@@ -169,10 +210,10 @@ GroupsAreCounted = (s : ItemStore) → AllByRecursion IsShortGroup s.groups → 
 
 -- the types of items, references, properties and groups have four bytes
 pub record AreFours (s : ItemStore) : Type 0 where
-  pub items : AllByRecursion (λ (i : Item). IsFour i.kind) s.items
-  pub lists : AllByRecursion (λ (i : Item). AllByRecursion (λ (r : RefList). IsFour r.kind) i.refs) s.items
-  pub props : AllByRecursion (λ (i : Item). AllByRecursion (λ (h : Held). IsFour h.prop.kind) i.props) s.items
-  pub groups : AllByRecursion (λ (g : Group). IsFour g.kind) s.groups
+  pub items : AllByRecursion IsFourItem s.items
+  pub lists : AllRefs IsFourList s.items
+  pub props : AllProps IsFourProp s.items
+  pub groups : AllByRecursion IsFourGroup s.groups
 
 -- those of a store, by its counts
 abbrev pub counted_inner : ItemStore → Inner
@@ -184,7 +225,8 @@ counted_meta s = meta_size_by (is_wide s.items) 8 (length (table_of s)) (counts_
 
 -- where `meta` is within its limit, as it is or by the counts, all of them are short, and so it is both or neither
 abbrev pub MetaIsCounted : Type 0
-MetaIsCounted = (s : ItemStore) → AreFours s → (meta_len s ≤ limits.META) ⊎ (counted_meta s ≤ limits.META) → (inner_of s ≡ counted_inner s) × (meta_len s ≡ counted_meta s)
+MetaIsCounted =
+    (s : ItemStore) → AreFours s → (meta_len s ≤ limits.META) ⊎ (counted_meta s ≤ limits.META) → (inner_of s ≡ counted_inner s) × (meta_len s ≡ counted_meta s)
 
 -- the same for a longer `meta`: entries of `iinf` and groups as they are, the others by the counts
 abbrev pub long_inner : ItemStore → Inner
@@ -197,8 +239,10 @@ long_inner s = record {
 
 -- its length, where all reference lists and properties are short
 abbrev pub LongMetaIsCounted : Type 0
-LongMetaIsCounted = (s : ItemStore) → AllByRecursion (λ (i : Item). AllByRecursion IsShortList i.refs) s.items → AllByRecursion (λ (i : Item). AllByRecursion (λ (h : Held). IsShortProp h.prop) i.props) s.items
-    → (home : Homes) (w file_len : ℕ) → length (box (four "meta") (meta_body home w file_len s)) ≡ meta_size_by (is_wide s.items) w (length (table_of s)) (counts_of s) (long_inner s)
+LongMetaIsCounted =
+    (s : ItemStore) → AllRefs IsShortList s.items → AllProps IsShortProp s.items
+    → (home : Homes) (w file_len : ℕ)
+    → length (box (four "meta") (meta_body home w file_len s)) ≡ meta_size_by (is_wide s.items) w (length (table_of s)) (counts_of s) (long_inner s)
 
 -- in a valid store all lengths follow from the counts, the number of distinct properties, and the bytes of their
 -- boxes
