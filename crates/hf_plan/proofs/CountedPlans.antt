@@ -1,5 +1,5 @@
 -- What a plan says follows from the counts of the store.
-use Rattle.std.proofs.Common.{◌≡◌, ℕ, ◌≤◌, Bool, cond, Some, None, length, refl, ap}
+use Rattle.std.proofs.Common.{◌≡◌, ℕ, ◌≤◌, Bool, cond, Some, None, length, refl, ap, arith}
 use Rattle.std.specs.Prelude.{slice_get}
 use Rattle.hf_loc.specs.Iloc.{offset_width}
 use Rattle.hf_store.specs.Counts.{counts_of, counts_before}
@@ -9,6 +9,7 @@ use Rattle.hf_store.specs.Sizes.{iinf_size, iref_size, ipco_size, ipma_size, ipr
 use Rattle.hf_store.specs.Store.{Item, ItemStore}
 use Rattle.hf_store.specs.Table.{table_of}
 use Rattle.hf_store.specs.Valid.{Valid}
+use Rattle.hf_store.proofs.BoxLengths.{le-box_len}
 use Rattle.hf_store.proofs.MetaCounts.{valid_sizes_are_counted}
 use Rattle.hf_store.proofs.Offsets.{offsets_are_counted}
 use Rattle.hf_plan.specs.Plan.{start_of, sizes_of}
@@ -29,12 +30,18 @@ pub sizes-counted : (long : Bool) (s : ItemStore) → Valid s → sizes_of long 
 unfolding sizes_of
 sizes-counted long s valid =
     let sizes = valid_sizes_are_counted s valid in
-    rw (sizes.meta own (offset_width long) 0, sizes.iinf, sizes.iref, sizes.iprp, sizes.ipco, sizes.ipma, sizes.grpl, sizes.idat, sizes.iloc own (offset_width long) 0, sizes.mdat) refl
+    let meta = sizes.meta own (offset_width long) 0 in
+    let iloc = sizes.iloc own (offset_width long) 0 in
+    rw (meta, sizes.iinf, sizes.iref, sizes.iprp, sizes.ipco, sizes.ipma, sizes.grpl, sizes.idat, iloc, sizes.mdat) refl
 
 -- the whole file
 pub total-counted : (w : ℕ) (s : ItemStore) → Valid s
     → length (laid own w 0 s) ≡ file_size_by (is_wide s.items) w (length (table_of s)) s.brands (counts_of s) (counted_inner s)
 total-counted w s valid = (valid_sizes_are_counted s valid).file w 0 valid.brands.major
+
+-- the file has room for `mdat`
+pub room-counted : (w : ℕ) (s : ItemStore) → Valid s → (counts_of s).mdat ≤ length (laid own w 0 s)
+room-counted w s valid = omega (arith, total-counted w s valid, le-box_len (counts_of s).mdat)
 
 -- the offset that is written for an item
 pub start-counted : (total : ℕ) (s : ItemStore) (k : ℕ) (i : Item) → Valid s → (counts_of s).mdat ≤ total → slice_get s.items k ≡ Some i

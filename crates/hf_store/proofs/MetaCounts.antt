@@ -9,8 +9,8 @@ use Rattle.hf_base.specs.declared.loc.RefBox.{RefBox}
 use Rattle.hf_box.specs.Head.{box_len, box}
 use Rattle.hf_box.specs.Literals.{four}
 use Rattle.hf_box.specs.Written.{id_width}
-use Rattle.hf_info.specs.Infe.{infe_body, infe_box}
-use Rattle.hf_links.specs.Grpl.{group_body, group_box}
+use Rattle.hf_info.specs.Infe.{infe_body}
+use Rattle.hf_links.specs.Grpl.{group_body}
 use Rattle.hf_links.specs.Iref.{reference_body, reference_box}
 use Rattle.hf_store.specs.Counts.{Counts, strings_of, targets_of, counts_of}
 use Rattle.hf_store.specs.Layout.{own, is_wide, info_of, all_boxes}
@@ -40,14 +40,22 @@ unfolding counts_of
 infes_are_short s fours few =
     all_below strings_of IsFourItem IsShortItem (sum_by strings_of s.items) s.items fours (omega arith) (λ i kind le. (kind, omega (arith, le, few)))
 
+abbrev FourRefs : Item → Type 0
+FourRefs i = AllByRecursion IsFourList i.refs
+
+abbrev ShortRefs : Item → Type 0
+ShortRefs i = AllByRecursion IsShortList i.refs
+
 pub links_are_short : (s : ItemStore) → AllRefs IsFourList s.items
     → 14 + (counts_of s).targets * 4 < 256 ^ 4
     → AllRefs IsShortList s.items
 unfolding counts_of
 links_are_short s fours few =
     let top = sum_by (λ (i : Item). targets_of i.refs) s.items in
-    all_below (λ (i : Item). targets_of i.refs) (λ (i : Item). AllByRecursion IsFourList i.refs) (λ (i : Item). AllByRecursion IsShortList i.refs) top s.items fours (omega arith)
-    (λ i kinds le. all_below (λ (r : RefList). length r.to) IsFourList IsShortList top i.refs kinds le (λ r kind less. (kind, omega (arith, less, few))))
+    let lists : (rs : List RefList) → AllByRecursion IsFourList rs → targets_of rs ≤ top → AllByRecursion IsShortList rs = λ rs kinds le.
+    all_below (λ (r : RefList). length r.to) IsFourList IsShortList top rs kinds le (λ r kind less. (kind, omega (arith, less, few)))
+    in
+    all_below (λ (i : Item). targets_of i.refs) FourRefs ShortRefs top s.items fours (omega arith) (λ i. lists i.refs)
 
 pub props_are_short : (ps : List Prop) → AllByRecursion IsFourProp ps → short_props ps < 256 ^ 4 → AllByRecursion IsShortProp ps
 props_are_short ps fours few =
@@ -60,22 +68,29 @@ group_bytes-sum : (gs : List Group)
     → sum_by group_bytes gs ≡ length gs * 20 + sum_by (λ (g : Group). length g.entities) gs * 4 + sum_by (λ (g : Group). length g.tail) gs
 group_bytes-sum [] = omega arith
 group_bytes-sum (g ∷ gs) =
-    omega (arith, sum_by-cons group_bytes g gs, sum_by-cons (λ (h : Group). length h.entities) g gs, sum_by-cons (λ (h : Group). length h.tail) g gs, group_bytes-sum gs)
+    let entities = sum_by-cons (λ (h : Group). length h.entities) g gs in
+    omega (arith, sum_by-cons group_bytes g gs, entities, sum_by-cons (λ (h : Group). length h.tail) g gs, group_bytes-sum gs)
 
 pub groups_are_short : (s : ItemStore) → AllByRecursion IsFourGroup s.groups → short_groups (counts_of s) < 256 ^ 4
     → AllByRecursion IsShortGroup s.groups
 unfolding counts_of
 groups_are_short s fours few =
-    let sum = group_bytes-sum s.groups in
-    all_below group_bytes IsFourGroup IsShortGroup (sum_by group_bytes s.groups) s.groups fours (omega arith) (λ g kind le. (kind, omega (arith, le, few, sum, sum-zero s.items, sum-one s.groups)))
+    let top = sum_by group_bytes s.groups in
+    let small : top < 256 ^ 4 = omega (arith, few, group_bytes-sum s.groups, sum-zero s.items, sum-one s.groups) in
+    all_below group_bytes IsFourGroup IsShortGroup top s.groups fours (omega arith) (λ g kind le. (kind, omega (arith, le, small)))
 
 -- ---- the same by the boxes as they are laid
+
+infe_fits : (wide : Bool) (i : Item) (top : ℕ) → IsFour i.kind → infe_size wide i ≤ top → 4 + top < 256 ^ 4 → IsShortItem i
+infe_fits wide i top kind le small =
+    let n = length (infe_body wide (info_of i)) in
+    let size = length-box (four "infe") (infe_body wide (info_of i)) refl in
+    (kind, omega (arith, le, small, size, le-box_len n, infe_body-size wide i kind, ge-width wide))
 
 infes_fit : (wide : Bool) (is : List Item) (top : ℕ) → AllByRecursion IsFourItem is → infes_size wide is ≤ top → 4 + top < 256 ^ 4
     → AllByRecursion IsShortItem is
 infes_fit wide is top fours sum small =
-    all_below (infe_size wide) IsFourItem IsShortItem top is fours sum
-    (λ i kind le. (kind, omega (arith, le, small, length-box (four "infe") (infe_body wide (info_of i)) refl, le-box_len (length (infe_body wide (info_of i))), infe_body-size wide i kind, ge-width wide)))
+    all_below (infe_size wide) IsFourItem IsShortItem top is fours sum (λ i kind le. infe_fits wide i top kind le small)
 
 -- twice what stands in a reference box has room for ids of four bytes
 twice : (wide : Bool) (n : ℕ) → n * 4 ≤ 2 * (n * id_width wide)
@@ -85,21 +100,25 @@ twice false n = omega arith
 link_fits : (wide : Bool) (from : ℕ) (r : RefList) (top : ℕ) → IsFour r.kind → length (box r.kind (reference_body wide from r.to)) ≤ top
     → 14 + 2 * top < 256 ^ 4 → IsShortList r
 link_fits wide from r top kind le small =
-    (kind, omega (arith, le, small, length-box r.kind (reference_body wide from r.to) kind, le-box_len (length (reference_body wide from r.to)), length-reference_body wide from r.to, twice wide (length r.to)))
+    let n = length (reference_body wide from r.to) in
+    let size = length-box r.kind (reference_body wide from r.to) kind in
+    (kind, omega (arith, le, small, size, le-box_len n, length-reference_body wide from r.to, twice wide (length r.to)))
 
 links_fit : (wide : Bool) (is : List Item) (top : ℕ) → AllRefs IsFourList is
     → links_size wide is ≤ top → 14 + 2 * top < 256 ^ 4
     → AllRefs IsShortList is
 links_fit wide [] top fours sum small = tt
 links_fit wide (i ∷ is) top fours sum small =
-    let size = links_size-cons wide i is in (
-      all_below (λ (r : RefList). length (box r.kind (reference_body wide i.id r.to))) IsFourList IsShortList top i.refs fours.0 (omega (arith, size, sum)) (λ r kind le. link_fits wide i.id r top kind le small),
+    let size = links_size-cons wide i is in
+    let link : RefList → ℕ = λ r. length (box r.kind (reference_body wide i.id r.to)) in (
+      all_below link IsFourList IsShortList top i.refs fours.0 (omega (arith, size, sum)) (λ r kind le. link_fits wide i.id r top kind le small),
       links_fit wide is top fours.1 (omega (arith, size, sum)) small,
     )
 
 props_fit : (ps : List Prop) (top : ℕ) → AllByRecursion IsFourProp ps → props_size ps ≤ top → top < 256 ^ 4 → AllByRecursion IsShortProp ps
 props_fit ps top fours sum small =
-    all_below prop_box_size IsFourProp IsShortProp top ps fours sum (λ p kind le. (kind, omega (arith, le, small, length-box p.kind p.body kind, le-box_len (length p.body))))
+    all_below prop_box_size IsFourProp IsShortProp top ps fours sum
+    (λ p kind le. (kind, omega (arith, le, small, length-box p.kind p.body kind, le-box_len (length p.body))))
 
 groups_fit : (gs : List Group) (top : ℕ) → AllByRecursion IsFourGroup gs → groups_size gs ≤ top → top < 256 ^ 4
     → AllByRecursion IsShortGroup gs
@@ -116,7 +135,10 @@ all_append P (x ∷ xs) ys some more = (some.0, all_append P xs ys some.1 more)
 -- what holds of the properties of all items holds of the table
 all_with : (P : Prop → Type 0) (earlier : List Prop) (p : Prop) → AllByRecursion P earlier → P p → AllByRecursion P (with_prop earlier p)
 all_with P earlier p all this =
-    elim (list_any (same_prop p) earlier) as (λ b. AllByRecursion P (cond b earlier (earlier ++ p ∷ []))) [ true ↦ all | false ↦ all_append P earlier (p ∷ []) all (this, tt) ]
+    elim (list_any (same_prop p) earlier) as (λ b. AllByRecursion P (cond b earlier (earlier ++ p ∷ []))) [
+      | true ↦ all
+      | false ↦ all_append P earlier (p ∷ []) all (this, tt)
+    ]
 
 all_folded : (P : Prop → Type 0) (earlier ps : List Prop) → AllByRecursion P earlier → AllByRecursion P ps → AllByRecursion P (fold with_prop earlier ps)
 all_folded P earlier [] all more = all
@@ -146,7 +168,7 @@ all_of Q P (x ∷ xs) good each = (each x good.0, all_of Q P xs good.1 each)
 pub valid_fours : (s : ItemStore) → Valid s → AreFours s
 valid_fours s valid = record {
   items = all_of (IsGoodItem s.items) IsFourItem s.items valid.items (λ i good. good.kind);
-  lists = all_of (IsGoodItem s.items) (λ (i : Item). AllByRecursion IsFourList i.refs) s.items valid.items (λ i good. all_of (IsGoodRef s.items) IsFourList i.refs good.refs (λ r ref. ref.kind));
+  lists = all_of (IsGoodItem s.items) FourRefs s.items valid.items (λ i good. all_of (IsGoodRef s.items) IsFourList i.refs good.refs (λ r ref. ref.kind));
   props = all_of (IsGoodItem s.items) (λ (i : Item). AllByRecursion (λ (h : Held). IsFour h.prop.kind) i.props) s.items valid.items (λ i good. good.prop_kinds);
   groups = all_of (IsGoodGroup s.items) IsFourGroup s.groups valid.groups (λ g good. good.kind);
 }
@@ -154,7 +176,8 @@ valid_fours s valid = record {
 -- the lists of items that are good in all else are short
 pub lists_are_short : (s : ItemStore) → AllByRecursion (IsGoodItem s.items) s.items → AllRefs IsShortList s.items
 lists_are_short s good =
-    all_of (IsGoodItem s.items) (λ (i : Item). AllByRecursion IsShortList i.refs) s.items good (λ i item. all_of (IsGoodRef s.items) IsShortList i.refs item.refs (λ r ref. (ref.kind, omega (arith, ref.links))))
+    all_of (IsGoodItem s.items) ShortRefs s.items good
+    (λ i item. all_of (IsGoodRef s.items) IsShortList i.refs item.refs (λ r ref. (ref.kind, omega (arith, ref.links))))
 
 -- ---- meta
 
@@ -199,7 +222,8 @@ no_targets : (is : List Item) → sum_by (λ (i : Item). length i.refs) is ≡ 0
 no_targets [] none = refl
 no_targets (i ∷ is) none =
     let links = sum_by-cons (λ (j : Item). length j.refs) i is in
-    omega (arith, sum_by-cons (λ (j : Item). targets_of j.refs) i is, sum-none (λ (r : RefList). length r.to) i.refs (omega (arith, links, none)), no_targets is (omega (arith, links, none)))
+    let here = sum-none (λ (r : RefList). length r.to) i.refs (omega (arith, links, none)) in
+    omega (arith, sum_by-cons (λ (j : Item). targets_of j.refs) i is, here, no_targets is (omega (arith, links, none)))
 
 no_links-laid : (s : ItemStore) (wide : Bool) → (counts_of s).links ≡ 0 → links_size wide s.items ≡ 0
 no_links-laid s wide none = sum-none (λ (b : RefBox). length (reference_box wide b)) (all_boxes s.items) (omega (arith, none, (counts_are s).links))
@@ -211,7 +235,8 @@ no_links-counted : (s : ItemStore) (wide : Bool) → (counts_of s).links ≡ 0 �
 unfolding counts_of
 no_links-counted s wide none =
     let zero_sum = sum-zero s.groups in
-    let targets : sum_by (λ (i : Item). targets_of i.refs) s.items + sum_by (λ (g : Group). 0) s.groups ≡ 0 = omega (arith, zero_sum, no_targets s.items (omega (arith, none))) in
+    let of_items = no_targets s.items (omega (arith, none)) in
+    let targets : sum_by (λ (i : Item). targets_of i.refs) s.items + sum_by (λ (g : Group). 0) s.groups ≡ 0 = omega (arith, zero_sum, of_items) in
     ap (λ n. n * (10 + id_width wide) + (counts_of s).targets * id_width wide) none ∙ ap (λ n. 0 * (10 + id_width wide) + n * id_width wide) targets
     ∙ omega arith
 
@@ -234,13 +259,16 @@ inner_is_counted : (s : ItemStore) → AreShort s → inner_of s ≡ counted_inn
 unfolding inner_of
 inner_is_counted s short =
     let wide = is_wide s.items in
-    rw (infes_are_counted s wide short.infes, links_are_counted s wide short.links, props_are_counted (table_of s) short.props, groups_are_counted s short.groups) refl
+    let infes = infes_are_counted s wide short.infes in
+    let links = links_are_counted s wide short.links in
+    rw (infes, links, props_are_counted (table_of s) short.props, groups_are_counted s short.groups) refl
 
 short_as_laid : (s : ItemStore) → AreFours s → meta_len s ≤ limits.META → AreShort s
 unfolding inner_of meta_len
 short_as_laid s fours small =
     let wide = is_wide s.items in
-    let within = within-meta wide (length (table_of s)) (counts_of s) (inner_of s) (meta_len s) (meta-counted s own 8 0) (no_links-laid s wide) (no_groups-laid s) in
+    let meta = meta-counted s own 8 0 in
+    let within = within-meta wide (length (table_of s)) (counts_of s) (inner_of s) (meta_len s) meta (no_links-laid s wide) (no_groups-laid s) in
     record {
       infes = infes_fit wide s.items limits.META fours.items (omega (arith, within.infes, small)) (omega arith);
       links = links_fit wide s.items limits.META fours.lists (omega (arith, within.links, small)) (omega arith);

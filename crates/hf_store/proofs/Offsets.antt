@@ -65,8 +65,9 @@ inside-counted : (low : ℕ) (is : List Item) (k : ℕ) (i : Item) → RisesFrom
 inside-counted low [] k i rises here = absurd cc
 inside-counted low (j ∷ js) zero i rises here = none_inside i.id (j ∷ js) (first_is_least low i j js (some_is here) rises)
 inside-counted low (j ∷ js) (suc k) i rises here =
-    let before = lt-ltb j.id i.id (comes_first low j js k i rises here) in
-    omega (arith, sum_by-cons (inside_before i.id) j js, sum_by-cons inside j (take k js), and-true (in_idat j) (ltb j.id i.id) (length j.bytes) before, inside-counted j.id js k i rises.1 here)
+    let before = and-true (in_idat j) (ltb j.id i.id) (length j.bytes) (lt-ltb j.id i.id (comes_first low j js k i rises here)) in
+    let rest = inside-counted j.id js k i rises.1 here in
+    omega (arith, sum_by-cons (inside_before i.id) j js, sum_by-cons inside j (take k js), before, rest)
 
 pub idat_offset-counted : (is : List Item) (k : ℕ) (i : Item) → RisesFrom ◌<◌ 0 (ids_of is) → slice_get is k ≡ Some i
     → idat_offset is i ≡ sum_by inside (take k is)
@@ -95,8 +96,10 @@ outside-counted : (low : ℕ) (is : List Item) (k : ℕ) (i : Item) → RisesFro
 outside-counted low [] k i rises here = absurd cc
 outside-counted low (j ∷ js) zero i rises here = omega (arith, all_outside i.id (j ∷ js) (first_is_least low i j js (some_is here) rises))
 outside-counted low (j ∷ js) (suc k) i rises here =
-    let before : outside_from i.id j ≡ 0 = ap (λ b. cond (is_written j) (cond b (length j.bytes) 0) 0) (lt-leb i.id j.id (comes_first low j js k i rises here)) ∙ nothing (is_written j) 0 in
-    omega (arith, sum_by-cons (outside_from i.id) j js, sum_by-cons outside j (take k js), sum_by-cons outside j js, before, outside-counted j.id js k i rises.1 here)
+    let less = lt-leb i.id j.id (comes_first low j js k i rises here) in
+    let before : outside_from i.id j ≡ 0 = ap (λ b. cond (is_written j) (cond b (length j.bytes) 0) 0) less ∙ nothing (is_written j) 0 in
+    let rest = outside-counted j.id js k i rises.1 here in
+    omega (arith, sum_by-cons (outside_from i.id) j js, sum_by-cons outside j (take k js), sum_by-cons outside j js, before, rest)
 
 pub mdat_offset-counted : (file_len : ℕ) (is : List Item) (k : ℕ) (i : Item) → RisesFrom ◌<◌ 0 (ids_of is) → slice_get is k ≡ Some i
     → sum_by outside is ≤ file_len

@@ -12,11 +12,11 @@ use Rattle.hf_links.specs.Grpl.{group_body, group_box}
 use Rattle.hf_links.specs.Iref.{reference_body, reference_box}
 use Rattle.hf_store.specs.Counts.{strings_of, targets_of, counts_of}
 use Rattle.hf_store.specs.Layout.{info_of, item_boxes, all_boxes}
-use Rattle.hf_store.specs.Sizes.{infe_size, prop_box_size, group_size, AllRefs, AllProps, IsFourItem, IsFourList, IsFourProp, IsFourGroup, infes_size, links_size, groups_size, IsShortItem, IsShortList, IsShortProp, IsShortGroup, InfesAreCounted, LinksAreCounted, PropsAreCounted, GroupsAreCounted}
+use Rattle.hf_store.specs.Sizes.{infe_size, prop_box_size, group_size, AllRefs, infes_size, links_size, groups_size, IsShortItem, IsShortList, IsShortProp, IsShortGroup, InfesAreCounted, LinksAreCounted, PropsAreCounted, GroupsAreCounted}
 use Rattle.hf_store.specs.Store.{Prop, RefList, Item, Group}
 use Rattle.hf_store.specs.Valid.{IsFour}
 use Rattle.hf_store.proofs.BoxLengths.{length-box, box_len-short}
-use Rattle.hf_store.proofs.CountsAre.{counts_are, sum-zero, sum-one}
+use Rattle.hf_store.proofs.CountsAre.{box_from, counts_are, sum-zero, sum-one}
 use Rattle.hf_store.proofs.FieldLengths.{strings_len, length-infe_body, length-reference_body, length-nums}
 use Rattle.hf_store.proofs.Sizes.{sum-map}
 
@@ -83,14 +83,14 @@ links_of_one : (wide : Bool) (from : ℕ) (rs : List RefList) → AllByRecursion
 links_of_one wide from [] short = omega arith
 links_of_one wide from (r ∷ rs) short =
     let size = sum_by-cons (λ (q : RefList). length (box q.kind (reference_body wide from q.to))) r rs in
-    let targets : targets_of (r ∷ rs) * id_width wide ≡ (length r.to + targets_of rs) * id_width wide = ap (λ n. n * id_width wide) (sum_by-cons (λ (q : RefList). length q.to) r rs) in
+    let targets = ap (λ n. n * id_width wide) (sum_by-cons (λ (q : RefList). length q.to) r rs) in
     omega (arith, size, targets, link-short wide from r short.0, links_of_one wide from rs short.1)
 
 pub links_size-cons : (wide : Bool) (i : Item) (is : List Item)
     → links_size wide (i ∷ is) ≡ sum_by (λ (r : RefList). length (box r.kind (reference_body wide i.id r.to))) i.refs + links_size wide is
 links_size-cons wide i is =
     sum_by-append (λ (b : RefBox). length (reference_box wide b)) (item_boxes i.id i.refs) (all_boxes is)
-    ∙ ap (λ n. n + links_size wide is) (sum-map (λ (b : RefBox). length (reference_box wide b)) (λ (r : RefList). record { kind = r.kind; from = i.id; to = r.to }) i.refs)
+    ∙ ap (λ n. n + links_size wide is) (sum-map (λ (b : RefBox). length (reference_box wide b)) (box_from i.id) i.refs)
 
 links_sum : (wide : Bool) (is : List Item) → AllRefs IsShortList is
     → links_size wide is ≡ sum_by (λ (i : Item). length i.refs) is * (10 + id_width wide) + sum_by (λ (i : Item). targets_of i.refs) is * id_width wide
@@ -120,7 +120,9 @@ groups_sum : (gs : List Group) → AllByRecursion IsShortGroup gs
     → groups_size gs ≡ length gs * 20 + sum_by (λ (g : Group). length g.entities) gs * 4 + sum_by (λ (g : Group). length g.tail) gs
 groups_sum [] short = omega arith
 groups_sum (g ∷ gs) short =
-    omega (arith, sum_by-cons group_size g gs, sum_by-cons (λ (h : Group). length h.entities) g gs, sum_by-cons (λ (h : Group). length h.tail) g gs, group-short g short.0, groups_sum gs short.1)
+    let entities = sum_by-cons (λ (h : Group). length h.entities) g gs in
+    let tails = sum_by-cons (λ (h : Group). length h.tail) g gs in
+    omega (arith, sum_by-cons group_size g gs, entities, tails, group-short g short.0, groups_sum gs short.1)
 
 pub groups_are_counted : GroupsAreCounted
 unfolding counts_of

@@ -24,7 +24,7 @@ use Rattle.hf_loc.specs.Iloc.{offset_width, iloc_body}
 use Rattle.hf_prop.specs.Ipma.{ipma_entry, ipma_body}
 use Rattle.hf_prop.specs.Iprp.{is_long_table, ipco_body, iprp_body}
 use Rattle.hf_store.specs.Counts.{Counts, counts_of}
-use Rattle.hf_store.specs.Layout.{Homes, own, is_wide, info_of, infos_of, all_boxes, has_bytes, has_props, assoc_of, assocs_of, iprp_of, in_idat, bytes_in, entries_of, with_bytes, box_if_any, mdat_body, meta_body, laid}
+use Rattle.hf_store.specs.Layout.{Homes, own, is_wide, info_of, infos_of, all_boxes, has_bytes, has_props, assoc_of, assocs_of, iprp_of, in_idat, bytes_in, idat_body, entries_of, box_if_any, mdat_body, meta_body, laid}
 use Rattle.hf_store.specs.Picks.{pick_of}
 use Rattle.hf_store.specs.Sizes.{infes_size, links_size, props_size, groups_size, Inner, inner_of, short_inner, iinf_size, iref_size, ipma_size, iprp_size, grpl_size, idat_size, iloc_size, meta_size_by, mdat_size, ftyp_size, file_size_by, SizesAreCounted}
 use Rattle.hf_store.specs.Store.{Prop, Item, Group, ItemStore}
@@ -65,7 +65,7 @@ idat_first i is some =
 
 -- `idat` is absent where it would have no bytes
 pub length-idat : (is : List Item)
-    → length (box_if_any (four "idat") bytes_in (filter in_idat is)) ≡ cond (length (bytes_in (filter in_idat is)) == 0) 0 (box_len (length (bytes_in (filter in_idat is))))
+    → length (box_if_any (four "idat") bytes_in (filter in_idat is)) ≡ cond (length (idat_body is) == 0) 0 (box_len (length (idat_body is)))
 length-idat [] = unfold box_if_any bytes_in in refl
 length-idat (i ∷ is) =
     elim (cases_Bool (in_idat i)) [
@@ -90,29 +90,38 @@ pub length-groups : (gs : List Group) → length (grpl_body gs) ≡ groups_size 
 unfolding grpl_body
 length-groups gs = length-flat_map group_box gs
 
+-- the bytes of the entries for these items, and of so many entries with so many associations
+abbrev entries_len : Bool → Bool → List Prop → List Item → ℕ
+entries_len wide two_bytes table is = length (flat_map (ipma_entry wide two_bytes) (map (assoc_of table) is))
+
+abbrev counted_len : Bool → Bool → ℕ → ℕ → ℕ
+counted_len wide two_bytes entries picks = entries * (1 + id_width wide) + picks * (1 + bit two_bytes)
+
 -- the entries of `ipma`, behind one that is there or not
 assoc_here : (wide two_bytes : Bool) (table : List Prop) (i : Item) (is : List Item) (n : ℕ) (b : Bool) → has_props i ≡ b
-    → length (flat_map (ipma_entry wide two_bytes) (map (assoc_of table) is)) ≡ length is * (1 + id_width wide) + n * (1 + bit two_bytes)
-    → length (flat_map (ipma_entry wide two_bytes) (map (assoc_of table) (cond b (i ∷ is) is))) ≡ length (cond b (i ∷ is) is) * (1 + id_width wide) + (length i.props + n) * (1 + bit two_bytes)
+    → entries_len wide two_bytes table is ≡ counted_len wide two_bytes (length is) n
+    → entries_len wide two_bytes table (cond b (i ∷ is) is) ≡ counted_len wide two_bytes (length (cond b (i ∷ is) is)) (length i.props + n)
 assoc_here wide two_bytes table i is n true some rest =
     let entry : length (ipma_entry wide two_bytes (assoc_of table i)) ≡ id_width wide + 1 + length i.props * (1 + bit two_bytes) =
     length-ipma_entry wide two_bytes (assoc_of table i) ∙ ap (λ k. id_width wide + 1 + k * (1 + bit two_bytes)) (length-map i.props (pick_of table))
     in
-    let made : length (flat_map (ipma_entry wide two_bytes) (map (assoc_of table) (i ∷ is))) ≡ (1 + length is) * (1 + id_width wide) + (length i.props + n) * (1 + bit two_bytes) =
-    omega (arith, length-append (ipma_entry wide two_bytes (assoc_of table i)) (flat_map (ipma_entry wide two_bytes) (map (assoc_of table) is)), entry, rest)
-    in
-    made ∙ ap (λ k. k * (1 + id_width wide) + (length i.props + n) * (1 + bit two_bytes)) (omega arith)
+    let both = length-append (ipma_entry wide two_bytes (assoc_of table i)) (flat_map (ipma_entry wide two_bytes) (map (assoc_of table) is)) in
+    let made : entries_len wide two_bytes table (i ∷ is) ≡ counted_len wide two_bytes (1 + length is) (length i.props + n) = omega (arith, both, entry, rest) in
+    made ∙ ap (λ k. counted_len wide two_bytes k (length i.props + n)) (omega arith)
 assoc_here wide two_bytes table i is n false none rest =
     let empty : length i.props ≡ 0 = omega (arith, ltb-false _ _ none) in
-    rest ∙ ap (λ k. length is * (1 + id_width wide) + k * (1 + bit two_bytes)) (omega (arith, empty))
+    rest ∙ ap (counted_len wide two_bytes (length is)) (omega (arith, empty))
+
+abbrev picks_in : List Item → ℕ
+picks_in is = sum_by (λ (i : Item). length i.props) is
 
 pub length-assocs : (wide two_bytes : Bool) (table : List Prop) (is : List Item)
-    → length (flat_map (ipma_entry wide two_bytes) (assocs_of table is)) ≡ length (filter has_props is) * (1 + id_width wide) + sum_by (λ (i : Item). length i.props) is * (1 + bit two_bytes)
+    → entries_len wide two_bytes table (filter has_props is) ≡ counted_len wide two_bytes (length (filter has_props is)) (picks_in is)
 length-assocs wide two_bytes table [] = omega arith
 length-assocs wide two_bytes table (i ∷ is) =
     let sum = sum_by-cons (λ (j : Item). length j.props) i is in
-    assoc_here wide two_bytes table i (filter has_props is) (sum_by (λ (j : Item). length j.props) is) (has_props i) refl (length-assocs wide two_bytes table is)
-    ∙ ap (λ n. length (filter has_props (i ∷ is)) * (1 + id_width wide) + n * (1 + bit two_bytes)) (sym sum)
+    assoc_here wide two_bytes table i (filter has_props is) (picks_in is) (has_props i) refl (length-assocs wide two_bytes table is)
+    ∙ ap (counted_len wide two_bytes (length (filter has_props (i ∷ is)))) (sym sum)
 
 -- ---- the boxes of the file
 
@@ -122,7 +131,8 @@ boxed kind body n four is = length-box kind body four ∙ ap box_len is
 pub iinf-counted : (wide : Bool) (s : ItemStore)
     → length (box (four "iinf") (iinf_body wide (infos_of s.items))) ≡ box_len (4 + id_width wide + infes_size wide s.items)
 iinf-counted wide s =
-    boxed (four "iinf") (iinf_body wide (infos_of s.items)) _ refl (length-iinf_body wide (infos_of s.items) ∙ ap (λ n. 4 + id_width wide + n) (length-infes wide s.items))
+    let body = length-iinf_body wide (infos_of s.items) ∙ ap (λ n. 4 + id_width wide + n) (length-infes wide s.items) in
+    boxed (four "iinf") (iinf_body wide (infos_of s.items)) _ refl body
 
 pub iref-counted : (wide : Bool) (s : ItemStore)
     → length (box_if_any (four "iref") (iref_body wide) (all_boxes s.items)) ≡ cond ((counts_of s).links == 0) 0 (box_len (4 + links_size wide s.items))
@@ -135,27 +145,36 @@ iref-counted wide s =
 pub ipco-counted : (s : ItemStore) → length (box (four "ipco") (ipco_body (table_of s))) ≡ box_len (props_size (table_of s))
 ipco-counted s = boxed (four "ipco") (ipco_body (table_of s)) _ refl (length-props (table_of s))
 
-picks_sum : (s : ItemStore) → (counts_of s).picks ≡ sum_by (λ (i : Item). length i.props) s.items
+picks_sum : (s : ItemStore) → (counts_of s).picks ≡ picks_in s.items
 unfolding counts_of
 picks_sum s = omega (arith, sum-zero s.groups)
 
-pub ipma-counted : (wide : Bool) (s : ItemStore)
-    → length (box (four "ipma") (ipma_body wide (is_long_table (table_of s)) (assocs_of (table_of s) s.items))) ≡ ipma_size wide (length (table_of s)) (counts_of s)
+abbrev ipma_of : Bool → ItemStore → List ℕ
+ipma_of wide s = ipma_body wide (is_long_table (table_of s)) (assocs_of (table_of s) s.items)
+
+pub ipma-counted : (wide : Bool) (s : ItemStore) → length (box (four "ipma") (ipma_of wide s)) ≡ ipma_size wide (length (table_of s)) (counts_of s)
 ipma-counted wide s =
     let two_bytes = is_long_table (table_of s) in
     let c = counts_of s in
-    let assocs : length (flat_map (ipma_entry wide two_bytes) (assocs_of (table_of s) s.items)) ≡ c.holders * (1 + id_width wide) + c.picks * (1 + bit two_bytes) =
+    let assocs : length (flat_map (ipma_entry wide two_bytes) (assocs_of (table_of s) s.items)) ≡ counted_len wide two_bytes c.holders c.picks =
     length-assocs wide two_bytes (table_of s) s.items
-    ∙ ap (λ n. n * (1 + id_width wide) + sum_by (λ (i : Item). length i.props) s.items * (1 + bit two_bytes)) (sym (counts_are s).holders)
-    ∙ ap (λ n. c.holders * (1 + id_width wide) + n * (1 + bit two_bytes)) (sym (picks_sum s))
+    ∙ ap (λ n. counted_len wide two_bytes n (picks_in s.items)) (sym (counts_are s).holders)
+    ∙ ap (counted_len wide two_bytes c.holders) (sym (picks_sum s))
     in
-    boxed (four "ipma") (ipma_body wide two_bytes (assocs_of (table_of s) s.items)) _ refl (omega (arith, length-ipma_body wide two_bytes (assocs_of (table_of s) s.items), assocs))
+    let body = length-ipma_body wide two_bytes (assocs_of (table_of s) s.items) in
+    boxed (four "ipma") (ipma_of wide s) _ refl (omega (arith, body, assocs))
+
+iprp_body-counted : (wide : Bool) (s : ItemStore)
+    → length (iprp_body wide (iprp_of s)) ≡ box_len (props_size (table_of s)) + ipma_size wide (length (table_of s)) (counts_of s)
+unfolding iprp_body
+iprp_body-counted wide s =
+    length-append (box (four "ipco") (ipco_body (table_of s))) (box (four "ipma") (ipma_of wide s))
+    ∙ ap (λ n. n + length (box (four "ipma") (ipma_of wide s))) (ipco-counted s)
+    ∙ ap (λ n. box_len (props_size (table_of s)) + n) (ipma-counted wide s)
 
 pub iprp-counted : (wide : Bool) (s : ItemStore)
     → length (box (four "iprp") (iprp_body wide (iprp_of s))) ≡ box_len (box_len (props_size (table_of s)) + ipma_size wide (length (table_of s)) (counts_of s))
-unfolding iprp_body
-iprp-counted wide s =
-    boxed (four "iprp") (iprp_body wide (iprp_of s)) _ refl (length-append (box (four "ipco") (ipco_body (table_of s))) _ ∙ ap (λ n. n + length (box (four "ipma") (ipma_body wide (is_long_table (table_of s)) (assocs_of (table_of s) s.items)))) (ipco-counted s) ∙ ap (λ n. box_len (props_size (table_of s)) + n) (ipma-counted wide s))
+iprp-counted wide s = boxed (four "iprp") (iprp_body wide (iprp_of s)) _ refl (iprp_body-counted wide s)
 
 pub grpl-counted : (s : ItemStore) → length (box_if_any (four "grpl") grpl_body s.groups) ≡ cond ((counts_of s).groups == 0) 0 (box_len (groups_size s.groups))
 grpl-counted s =
@@ -168,7 +187,8 @@ idat-counted s = length-idat s.items ∙ ap (λ n. cond (n == 0) 0 (box_len n)) 
 pub iloc-counted : (wide : Bool) (s : ItemStore) (home : Homes) (w file_len : ℕ)
     → length (box (four "iloc") (iloc_body wide w (entries_of home file_len s.items))) ≡ iloc_size wide w (counts_of s)
 iloc-counted wide s home w file_len =
-    boxed (four "iloc") (iloc_body wide w (entries_of home file_len s.items)) _ refl (length-iloc_body home wide w file_len s.items ∙ ap (λ n. 6 + id_width wide + n * (6 + id_width wide + (w + w))) (sym (counts_are s).located))
+    let located = ap (λ n. 6 + id_width wide + n * (6 + id_width wide + (w + w))) (sym (counts_are s).located) in
+    boxed (four "iloc") (iloc_body wide w (entries_of home file_len s.items)) _ refl (length-iloc_body home wide w file_len s.items ∙ located)
 
 pub mdat-counted : (s : ItemStore) → length (box (four "mdat") (mdat_body own s.items)) ≡ mdat_size (counts_of s)
 mdat-counted s = boxed (four "mdat") (mdat_body own s.items) _ refl (sym (counts_are s).mdat)
@@ -188,8 +208,11 @@ meta-counted s home w file_len =
     let hdlr : box_len (length hdlr_body) ≡ 33 = ap box_len length-hdlr_body ∙ box_len-short 25 (omega arith) in
     let iinf = sym (length-box (four "iinf") (iinf_body wide (infos_of s.items)) refl) ∙ iinf-counted wide s in
     let iprp = sym (length-box (four "iprp") (iprp_body wide (iprp_of s)) refl) ∙ iprp-counted wide s in
-    let iloc : box_len (6 + id_width wide + length (with_bytes s.items) * (6 + id_width wide + (w + w))) ≡ iloc_size wide w (counts_of s) = ap (λ n. box_len (6 + id_width wide + n * (6 + id_width wide + (w + w)))) (sym (counts_are s).located) in
-    boxed (four "meta") (meta_body home w file_len s) _ refl (omega (arith, length-meta_body home w file_len s, length-meta_front s, hdlr, pitm-size wide s.primary, iinf, iref-counted wide s, iprp, grpl-counted s, idat-counted s, iloc))
+    let iloc = ap (λ n. box_len (6 + id_width wide + n * (6 + id_width wide + (w + w)))) (sym (counts_are s).located) in
+    let front = length-meta_front s in
+    let body = length-meta_body home w file_len s in
+    boxed (four "meta") (meta_body home w file_len s) _ refl
+    (omega (arith, body, front, hdlr, pitm-size wide s.primary, iinf, iref-counted wide s, iprp, grpl-counted s, idat-counted s, iloc))
 
 pub file-counted : (s : ItemStore) (w file_len : ℕ) → IsFour s.brands.major
     → length (laid own w file_len s) ≡ file_size_by (is_wide s.items) w (length (table_of s)) s.brands (counts_of s) (inner_of s)
@@ -254,7 +277,9 @@ meta_size-le wide long n c b =
     let idat = if_any-le c.idat c.idat in
     let iloc = box_len-le (6 + id_width wide + c.located * (6 + id_width wide + (w + w))) in
     let inside = 4 + 33 + (12 + id_width wide) + iinf_size wide b + iref_size c b + iprp_size wide n c b + grpl_size c b + idat_size c + iloc_size wide w c in
-    omega (arith, box_len-le inside, width, iinf, iref, ipco, ipma, iprp, grpl, idat, iloc, holders-le wide c.holders, picks-le (ltb 127 n) c.picks, located-le wide long c.located)
+    let holders = holders-le wide c.holders in
+    let picks = picks-le (ltb 127 n) c.picks in
+    omega (arith, box_len-le inside, width, iinf, iref, ipco, ipma, iprp, grpl, idat, iloc, holders, picks, located-le wide long c.located)
 
 links-le : (wide : Bool) (links targets : ℕ) → links * (10 + id_width wide) + targets * id_width wide ≤ links * 14 + targets * 4
 links-le true links targets = omega arith

@@ -164,7 +164,8 @@ ItemComes = (s : ItemStore) (k : ℕ) (i : Item) → counts_of (with_items s (in
 -- and one that stands for another one does both
 abbrev pub ItemChanges : Type 0
 ItemChanges =
-    (s : ItemStore) (k : ℕ) (i j : Item) → slice_get s.items k ≡ Some i → plus (counts_of (with_items s (set s.items k j))) (counts_of_item i) ≡ plus (counts_of s) (counts_of_item j)
+    (s : ItemStore) (k : ℕ) (i j : Item) → slice_get s.items k ≡ Some i
+    → plus (counts_of (with_items s (set s.items k j))) (counts_of_item i) ≡ plus (counts_of s) (counts_of_item j)
 
 -- the same of groups
 abbrev pub GroupGoes : Type 0
@@ -176,4 +177,5 @@ GroupComes = (s : ItemStore) (k : ℕ) (g : Group) → counts_of (with_groups s 
 
 abbrev pub GroupChanges : Type 0
 GroupChanges =
-    (s : ItemStore) (k : ℕ) (g h : Group) → slice_get s.groups k ≡ Some g → plus (counts_of (with_groups s (set s.groups k h))) (counts_of_group g) ≡ plus (counts_of s) (counts_of_group h)
+    (s : ItemStore) (k : ℕ) (g h : Group) → slice_get s.groups k ≡ Some g
+    → plus (counts_of (with_groups s (set s.groups k h))) (counts_of_group g) ≡ plus (counts_of s) (counts_of_group h)
