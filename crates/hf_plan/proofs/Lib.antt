@@ -1,5 +1,6 @@
 pub mod Bounds
 pub mod CanonicalFiles
+pub mod CountedPlans
 pub mod Counts
 pub mod Large
 pub mod Lengths

@@ -1,11 +1,11 @@
 -- The counts of lists and stores add up.
-use Rattle.std.proofs.Common.{◌≡◌, ℕ, zero, suc, ◌+◌, ◌<◌, ◌≤◌, List, [], ◌∷◌, ◌++◌, length, map, take, set, refl, sym, ap, ◌∙◌, arith, Some}
+use Rattle.std.proofs.Common.{Bool, true, false, cond, ◌≡◌, ℕ, ◌+◌, List, [], ◌∷◌, ◌++◌, map, take, drop, set, refl, sym, ap, ◌∙◌, arith, Some}
 use Rattle.std.specs.Prelude.{slice_get}
-use Rattle.std.specs.List.{sum_by, remove, insert}
+use Rattle.std.specs.List.{sum_by, filter, remove, insert}
 use Rattle.std.proofs.lemmas.List.Sums.{sum_by-cons, sum_by-append, sum_by-remove, sum_by-insert, sum_by-set, sum_by_more}
-use Rattle.std.proofs.lemmas.List.{take_all}
-use Rattle.hf_store.specs.Store.{Item, Group, ItemStore}
+use Rattle.std.proofs.lemmas.List.{take_all, take-append-drop}
 use Rattle.hf_store.specs.Counts.{Counts, no_counts, plus, summed, counts_of_item, counts_of_group, counts_of_items, counts_of_groups, counts_of, counts_before, ItemGoes, ItemComes, ItemChanges, GroupGoes, GroupComes, GroupChanges}
+use Rattle.hf_store.specs.Offsets.{NoneBeforeTheFirst, OneMoreBeforeTheNext, AllBeforeTheEnd, RestIsBehind}
 use Rattle.hf_store.proofs.Spots.{at_or, within_at}
 
 -- ---- sums of counts
@@ -72,7 +72,8 @@ pub item_changes : ItemChanges
 unfolding counts_of
 item_changes s k i j here =
     let groups = counts_of_groups s.groups in
-    plus-swap (counts_of_items (set s.items k j)) groups (counts_of_item i) ∙ ap (λ c. plus c groups) (summed-set counts_of_item s.items k i here j) ∙ plus-swap (counts_of_items s.items) (counts_of_item j) groups
+    plus-swap (counts_of_items (set s.items k j)) groups (counts_of_item i) ∙ ap (λ c. plus c groups) (summed-set counts_of_item s.items k i here j)
+    ∙ plus-swap (counts_of_items s.items) (counts_of_item j) groups
 
 pub group_goes : GroupGoes
 unfolding counts_of
@@ -90,7 +91,8 @@ pub group_changes : GroupChanges
 unfolding counts_of
 group_changes s k g h here =
     let items = counts_of_items s.items in
-    plus-assoc items (counts_of_groups (set s.groups k h)) (counts_of_group g) ∙ ap (plus items) (summed-set counts_of_group s.groups k g here h) ∙ sym (plus-assoc items (counts_of_groups s.groups) (counts_of_group h))
+    plus-assoc items (counts_of_groups (set s.groups k h)) (counts_of_group g) ∙ ap (plus items) (summed-set counts_of_group s.groups k g here h)
+    ∙ sym (plus-assoc items (counts_of_groups s.groups) (counts_of_group h))
 
 -- ---- all elements at once
 
@@ -99,19 +101,55 @@ summed-map f g [] = refl
 summed-map f g (x ∷ xs) = summed-cons f (g x) (map g xs) ∙ ap (plus (f (g x))) (summed-map f g xs) ∙ sym (summed-cons (λ y. f (g y)) x xs)
 
 plus-shuffle : (a b c d : Counts) → plus (plus a b) (plus c d) ≡ plus (plus a c) (plus b d)
-plus-shuffle a b c d = plus-assoc a b (plus c d) ∙ ap (plus a) (sym (plus-assoc b c d) ∙ ap (λ x. plus x d) (plus-comm b c) ∙ plus-assoc c b d) ∙ sym (plus-assoc a c (plus b d))
+plus-shuffle a b c d =
+    plus-assoc a b (plus c d) ∙ ap (plus a) (sym (plus-assoc b c d) ∙ ap (λ x. plus x d) (plus-comm b c) ∙ plus-assoc c b d) ∙ sym (plus-assoc a c (plus b d))
 
 pub summed-plus : {A : Type 0} (f g : A → Counts) (xs : List A) → summed (λ x. plus (f x) (g x)) xs ≡ plus (summed f xs) (summed g xs)
 summed-plus f g [] = refl
 summed-plus f g (x ∷ xs) =
-    summed-cons (λ y. plus (f y) (g y)) x xs ∙ ap (plus (plus (f x) (g x))) (summed-plus f g xs) ∙ plus-shuffle (f x) (g x) (summed f xs) (summed g xs) ∙ sym (ap (λ c. plus c (summed g (x ∷ xs))) (summed-cons f x xs) ∙ ap (plus (plus (f x) (summed f xs))) (summed-cons g x xs))
+    summed-cons (λ y. plus (f y) (g y)) x xs ∙ ap (plus (plus (f x) (g x))) (summed-plus f g xs) ∙ plus-shuffle (f x) (g x) (summed f xs) (summed g xs)
+    ∙ sym (ap (λ c. plus c (summed g (x ∷ xs))) (summed-cons f x xs) ∙ ap (plus (plus (f x) (summed f xs))) (summed-cons g x xs))
+
+-- what each loses, all lose
+pub summed-changed : {A B : Type 0} (f : B → Counts) (g : A → B) (lost whole : A → Counts) (xs : List A) → ((x : A) → plus (f (g x)) (lost x) ≡ whole x)
+    → plus (summed f (map g xs)) (summed lost xs) ≡ summed whole xs
+summed-changed f g lost whole [] each = refl
+summed-changed f g lost whole (x ∷ xs) each =
+    ap (λ c. plus c (summed lost (x ∷ xs))) (summed-cons f (g x) (map g xs))
+    ∙ ap (plus (plus (f (g x)) (summed f (map g xs)))) (summed-cons lost x xs)
+    ∙ plus-shuffle (f (g x)) (summed f (map g xs)) (lost x) (summed lost xs)
+    ∙ ap (λ c. plus c (plus (summed f (map g xs)) (summed lost xs))) (each x)
+    ∙ ap (plus (whole x)) (summed-changed f g lost whole xs each)
+    ∙ sym (summed-cons whole x xs)
+
+none-plus : (c : Counts) → plus no_counts c ≡ c
+none-plus c = grind arith
+
+summed-here : {A : Type 0} (f : A → Counts) (b : Bool) (x : A) (xs : List A) → summed f (cond b (x ∷ xs) xs) ≡ plus (cond b (f x) no_counts) (summed f xs)
+summed-here f true x xs = summed-cons f x xs
+summed-here f false x xs = sym (none-plus (summed f xs))
+
+-- those that do not pass count nothing
+pub summed-filter : {A : Type 0} (f : A → Counts) (p : A → Bool) (xs : List A) → summed f (filter p xs) ≡ summed (λ x. cond (p x) (f x) no_counts) xs
+summed-filter f p [] = refl
+summed-filter f p (x ∷ xs) =
+    summed-here f (p x) x (filter p xs)
+    ∙ ap (plus (cond (p x) (f x) no_counts)) (summed-filter f p xs)
+    ∙ sym (summed-cons (λ y. cond (p y) (f y) no_counts) x xs)
 
 -- those before the first place are none, and those before the end are all
-pub before-none : (is : List Item) → counts_before 0 is ≡ no_counts
-before-none is = refl
+pub none_before_the_first : NoneBeforeTheFirst
+none_before_the_first is = refl
 
-pub before-next : (is : List Item) (k : ℕ) (i : Item) → slice_get is k ≡ Some i → counts_before (k + 1) is ≡ plus (counts_before k is) (counts_of_item i)
-before-next is k i here = summed-next counts_of_item is k i here
+pub one_more_before_the_next : OneMoreBeforeTheNext
+one_more_before_the_next is k i here = summed-next counts_of_item is k i here
 
-pub before-all : (is : List Item) (k : ℕ) → length is ≤ k → counts_before k is ≡ counts_of_items is
-before-all is k past = ap counts_of_items (take_all k is past)
+pub all_before_the_end : AllBeforeTheEnd
+all_before_the_end is k past = ap counts_of_items (take_all k is past)
+
+pub rest_is_behind : RestIsBehind
+unfolding counts_of
+rest_is_behind s k =
+    let parts = sym (summed-append counts_of_item (take k s.items) (drop k s.items)) ∙ ap counts_of_items (take-append-drop k s.items) in
+    ap (λ c. plus c (counts_of_groups s.groups)) (sym parts)
+    ∙ plus-assoc (counts_before k s.items) (counts_of_items (drop k s.items)) (counts_of_groups s.groups)

@@ -1,17 +1,18 @@
 -- What the counts of a store are of its layout.
-use Rattle.std.proofs.Common.{◌≡◌, ℕ, zero, suc, ◌+◌, ◌^◌, ◌<◌, ◌≤◌, Bool, true, false, not, ◌&&◌, ◌||◌, cond, leb, ltb, List, [], ◌∷◌, length, length-append, map, refl, sym, ap, ◌∙◌, arith, inl, inr}
+use Rattle.std.proofs.Common.{◌≡◌, ℕ, ◌+◌, ◌^◌, Bool, true, false, not, ◌&&◌, ◌||◌, cond, leb, ltb, List, [], ◌∷◌, length, length-append, refl, sym, ap, ◌∙◌, arith, inl, inr}
 use Rattle.std.specs.Prelude.{◌==◌}
 use Rattle.std.specs.List.{sum_by, flat_map, filter}
-use Rattle.std.proofs.lemmas.Bool.{cases_Bool, and_from, eq-eqb, le-leb, lt-leb, lt-ltb}
+use Rattle.std.proofs.lemmas.Bool.{cases_Bool, and_from, eq-eqb, lt-ltb}
 use Rattle.std.proofs.lemmas.List.{length-map}
 use Rattle.std.proofs.lemmas.List.Concat.{length-flat_map}
 use Rattle.std.proofs.lemmas.List.Sums.{sum_by-cons}
+use Rattle.hf_base.specs.declared.loc.RefBox.{RefBox}
 use Rattle.hf_box.specs.Written.{bit}
-use Rattle.hf_store.specs.Store.{RefList, Item, Group, ItemStore}
-use Rattle.hf_store.specs.Layout.{own, is_wide, all_boxes, item_boxes, has_bytes, has_props, with_bytes, in_idat, is_data_item, bytes_in, idat_body, mdat_body}
+use Rattle.hf_store.specs.Store.{RefList, Item, Group}
+use Rattle.hf_store.specs.Layout.{own, is_wide, all_boxes, item_boxes, has_bytes, has_props, in_idat, is_data_item, bytes_in, mdat_body}
 use Rattle.hf_store.specs.Table.{props_of}
 use Rattle.hf_store.specs.Valid.{body_sum}
-use Rattle.hf_store.specs.Counts.{counts_of, targets_of, AreCounts, CountsAreOfTheLayout}
+use Rattle.hf_store.specs.Counts.{counts_of, CountsAreOfTheLayout}
 
 -- ---- sums
 
@@ -49,7 +50,8 @@ bytes-here false i is = omega arith
 pub sum-bytes : (p : Item → Bool) (is : List Item) → sum_by (λ (i : Item). cond (p i) (length i.bytes) 0) is ≡ length (bytes_in (filter p is))
 sum-bytes p [] = unfold bytes_in in refl
 sum-bytes p (i ∷ is) =
-    sum_by-cons (λ (j : Item). cond (p j) (length j.bytes) 0) i is ∙ ap (λ n. cond (p i) (length i.bytes) 0 + n) (sum-bytes p is) ∙ bytes-here (p i) i (filter p is)
+    sum_by-cons (λ (j : Item). cond (p j) (length j.bytes) 0) i is ∙ ap (λ n. cond (p i) (length i.bytes) 0 + n) (sum-bytes p is)
+    ∙ bytes-here (p i) i (filter p is)
 
 -- ---- each count
 
@@ -65,12 +67,18 @@ wide-counted (i ∷ is) =
     let rest = sum_by (λ (j : Item). bit (leb (256 ^ 2) j.id)) is in
     ap (ltb 0) (sum_by-cons (λ (j : Item). bit (leb (256 ^ 2) j.id)) i is) ∙ wide_here b rest ∙ ap (λ c. b || c) (wide-counted is)
 
+abbrev pub box_from : ℕ → RefList → RefBox
+box_from id r = record { kind = r.kind; from = id; to = r.to }
+
 pub links-counted : (is : List Item) → sum_by (λ (i : Item). length i.refs) is ≡ length (all_boxes is)
 links-counted is =
-    sum-same (λ (i : Item). length i.refs) (λ (i : Item). length (item_boxes i.id i.refs)) is (λ i. sym (length-map i.refs (λ (r : RefList). record { kind = r.kind; from = i.id; to = r.to }))) ∙ sym (length-flat_map (λ (i : Item). item_boxes i.id i.refs) is)
+    sum-same (λ (i : Item). length i.refs) (λ (i : Item). length (item_boxes i.id i.refs)) is (λ i. sym (length-map i.refs (box_from i.id)))
+    ∙ sym (length-flat_map (λ (i : Item). item_boxes i.id i.refs) is)
 
 pub picks-counted : (is : List Item) → sum_by (λ (i : Item). length i.props) is ≡ length (flat_map props_of is)
-picks-counted is = sum-same (λ (i : Item). length i.props) (λ (i : Item). length (props_of i)) is (λ i. sym (length-map i.props (λ h. h.prop))) ∙ sym (length-flat_map props_of is)
+picks-counted is =
+    sum-same (λ (i : Item). length i.props) (λ (i : Item). length (props_of i)) is (λ i. sym (length-map i.props (λ h. h.prop)))
+    ∙ sym (length-flat_map props_of is)
 
 abbrev pub is_written : Item → Bool
 is_written i = is_data_item i && (i.id == i.id)
@@ -79,6 +87,11 @@ no_bytes : (bytes : List ℕ) → has_bytes bytes ≡ false → length bytes ≡
 no_bytes [] e = refl
 no_bytes (b ∷ bs) e = absurd cc
 
+is_written-some : (i : Item) → has_bytes i.bytes ≡ true → in_idat i ≡ false → is_written i ≡ true
+is_written-some i some outside =
+    let data_item = and_from (has_bytes i.bytes) (not (in_idat i)) some (ap not outside) in
+    and_from (is_data_item i) (i.id == i.id) data_item (eq-eqb i.id i.id refl)
+
 -- the bytes of an item stand in `mdat` where they do not stand in `idat`
 pub mdat-here : (i : Item) → cond (in_idat i) 0 (length i.bytes) ≡ cond (is_written i) (length i.bytes) 0
 mdat-here i =
@@ -86,22 +99,27 @@ mdat-here i =
       | inl inside ↦ elim (cases_Bool (has_bytes i.bytes)) [ inl some ↦ rw (inside, some) refl | inr none ↦ rw (inside, none) refl ]
       | inr outside ↦
           elim (cases_Bool (has_bytes i.bytes)) [
-            | inl some ↦ ap (λ b. cond b 0 (length i.bytes)) outside ∙ sym (ap (λ b. cond b (length i.bytes) 0) (and_from (is_data_item i) (i.id == i.id) (and_from (has_bytes i.bytes) (not (in_idat i)) some (ap not outside)) (eq-eqb i.id i.id refl)))
+            | inl some ↦ ap (λ b. cond b 0 (length i.bytes)) outside ∙ sym (ap (λ b. cond b (length i.bytes) 0) (is_written-some i some outside))
             | inr none ↦ rw (outside, none) (no_bytes i.bytes none)
           ]
     ]
 
 pub mdat-counted : (is : List Item) → sum_by (λ (i : Item). cond (in_idat i) 0 (length i.bytes)) is ≡ length (mdat_body own is)
-mdat-counted is = sum-same (λ (i : Item). cond (in_idat i) 0 (length i.bytes)) (λ (i : Item). cond (is_written i) (length i.bytes) 0) is mdat-here ∙ sum-bytes is_written is
+mdat-counted is =
+    sum-same (λ (i : Item). cond (in_idat i) 0 (length i.bytes)) (λ (i : Item). cond (is_written i) (length i.bytes) 0) is mdat-here ∙ sum-bytes is_written is
 
 split-here : (b : Bool) (n : ℕ) → cond b n 0 + cond b 0 n ≡ n
 split-here true n = omega arith
 split-here false n = omega arith
 
-pub body-counted : (is : List Item) → sum_by (λ (i : Item). cond (in_idat i) (length i.bytes) 0) is + sum_by (λ (i : Item). cond (in_idat i) 0 (length i.bytes)) is ≡ body_sum is
+pub body-counted : (is : List Item)
+    → sum_by (λ (i : Item). cond (in_idat i) (length i.bytes) 0) is + sum_by (λ (i : Item). cond (in_idat i) 0 (length i.bytes)) is ≡ body_sum is
 unfolding body_sum
 body-counted is =
-    sym (sum-two (λ (i : Item). cond (in_idat i) (length i.bytes) 0) (λ (i : Item). cond (in_idat i) 0 (length i.bytes)) is) ∙ sum-same (λ (i : Item). cond (in_idat i) (length i.bytes) 0 + cond (in_idat i) 0 (length i.bytes)) (λ (i : Item). length i.bytes) is (λ i. split-here (in_idat i) (length i.bytes))
+    let inside : Item → ℕ = λ i. cond (in_idat i) (length i.bytes) 0 in
+    let outside : Item → ℕ = λ i. cond (in_idat i) 0 (length i.bytes) in
+    sym (sum-two inside outside is)
+    ∙ sum-same (λ (i : Item). inside i + outside i) (λ (i : Item). length i.bytes) is (λ i. split-here (in_idat i) (length i.bytes))
 
 pub counts_are : CountsAreOfTheLayout
 unfolding counts_of

@@ -13,13 +13,15 @@ pub mod LargeStores
 pub mod Lengths
 pub mod References
 pub mod Places
+pub mod MetaCounts
 pub mod Needers
+pub mod Offsets
 pub mod PlainLengths
 pub mod Reasons
 pub mod RefusedStores
 pub mod Removals
 pub mod Seen
-pub mod ShortSizes
+pub mod ShortBoxes
 pub mod Sizes
 pub mod Spots
 pub mod Tables

@@ -1,5 +1,5 @@
 -- The lengths of boxes are those that the counts tell.
-use Rattle.std.proofs.Common.{◌≡◌, ℕ, zero, suc, ◌+◌, ◌*◌, ◌^◌, ◌<◌, ◌≤◌, Bool, true, false, ◌&&◌, cond, ltb, List, [], ◌∷◌, ◌++◌, length, length-append, map, refl, sym, ap, ◌∙◌, arith, inl, inr}
+use Rattle.std.proofs.Common.{◌≡◌, ℕ, zero, suc, ◌≤◌, ltb, ◌+◌, ◌*◌, Bool, true, false, cond, List, [], ◌∷◌, ◌++◌, length, length-append, map, refl, sym, ap, ◌∙◌, arith, inl, inr, subst}
 use Rattle.std.specs.Prelude.{◌==◌}
 use Rattle.std.specs.List.{sum_by, flat_map, filter}
 use Rattle.std.proofs.Math.Dec.{eqb-suc-zero}
@@ -20,17 +20,17 @@ use Rattle.hf_info.specs.Infe.{Info, infe_box}
 use Rattle.hf_info.specs.Iinf.{iinf_body}
 use Rattle.hf_links.specs.Grpl.{group_box, grpl_body}
 use Rattle.hf_links.specs.Iref.{reference_box, iref_body}
-use Rattle.hf_loc.specs.Iloc.{iloc_body}
+use Rattle.hf_loc.specs.Iloc.{offset_width, iloc_body}
 use Rattle.hf_prop.specs.Ipma.{ipma_entry, ipma_body}
 use Rattle.hf_prop.specs.Iprp.{is_long_table, ipco_body, iprp_body}
 use Rattle.hf_store.specs.Counts.{Counts, counts_of}
-use Rattle.hf_store.specs.Layout.{Homes, own, is_wide, info_of, infos_of, all_boxes, has_bytes, has_props, assoc_of, assocs_of, iprp_of, in_idat, bytes_in, entries_of, with_bytes, box_if_any, mdat_body, meta_body, meta_front, laid}
+use Rattle.hf_store.specs.Layout.{Homes, own, is_wide, info_of, infos_of, all_boxes, has_bytes, has_props, assoc_of, assocs_of, iprp_of, in_idat, bytes_in, idat_body, entries_of, box_if_any, mdat_body, meta_body, laid}
 use Rattle.hf_store.specs.Picks.{pick_of}
-use Rattle.hf_store.specs.Sizes.{infes_size, links_size, props_size, groups_size, inner_of, iinf_size, iref_size, ipco_size, ipma_size, iprp_size, grpl_size, idat_size, iloc_size, meta_size_by, mdat_size, ftyp_size, file_size_by, SizesAreCounted}
+use Rattle.hf_store.specs.Sizes.{infes_size, links_size, props_size, groups_size, Inner, inner_of, short_inner, iinf_size, iref_size, ipma_size, iprp_size, grpl_size, idat_size, iloc_size, meta_size_by, mdat_size, ftyp_size, file_size_by, SizesAreCounted}
 use Rattle.hf_store.specs.Store.{Prop, Item, Group, ItemStore}
 use Rattle.hf_store.specs.Table.{table_of}
 use Rattle.hf_store.specs.Valid.{IsFour}
-use Rattle.hf_store.proofs.BoxLengths.{length-box, box_len-short}
+use Rattle.hf_store.proofs.BoxLengths.{length-box, box_len-short, box_len-le}
 use Rattle.hf_store.proofs.CountsAre.{counts_are, sum-zero}
 use Rattle.hf_store.proofs.FieldLengths.{length-ftyp_body, length-hdlr_body, length-pitm_body, length-iinf_body, length-ipma_entry, length-ipma_body, length-meta_front}
 use Rattle.hf_store.proofs.Lengths.{meta_body_len, length-iloc_body, length-meta_body}
@@ -41,10 +41,12 @@ sum-map f g (x ∷ xs) = sum_by-cons f (g x) (map g xs) ∙ ap (λ n. f (g x) + 
 
 -- ---- boxes that may be absent
 
-pub length-box_if_any : {A : Type 0} (kind : FourCc) (body : List A → List ℕ) (xs : List A) → length kind.0 ≡ 4 → length (box_if_any kind body xs) ≡ cond (length xs == 0) 0 (box_len (length (body xs)))
+pub length-box_if_any : {A : Type 0} (kind : FourCc) (body : List A → List ℕ) (xs : List A) → length kind.0 ≡ 4
+    → length (box_if_any kind body xs) ≡ cond (length xs == 0) 0 (box_len (length (body xs)))
 unfolding box_if_any
 length-box_if_any kind body [] four = refl
-length-box_if_any kind body (x ∷ xs) four = length-box kind (body (x ∷ xs)) four ∙ ap (λ b. cond b 0 (box_len (length (body (x ∷ xs))))) (sym (eqb-suc-zero (length xs)))
+length-box_if_any kind body (x ∷ xs) four =
+    length-box kind (body (x ∷ xs)) four ∙ ap (λ b. cond b 0 (box_len (length (body (x ∷ xs))))) (sym (eqb-suc-zero (length xs)))
 
 some_bytes : (bytes more : List ℕ) → has_bytes bytes ≡ true → (length bytes + length more == 0) ≡ false
 some_bytes [] more some = absurd cc
@@ -53,7 +55,8 @@ some_bytes (b ∷ bs) more some = ap (λ n. n == 0) (omega arith) ∙ eqb-suc-ze
 in_idat-some : (i : Item) → in_idat i ≡ true → has_bytes i.bytes ≡ true
 in_idat-some i inside = (and_parts _ _ (and_parts _ _ inside).0).1
 
-idat_first : (i : Item) (is : List Item) → has_bytes i.bytes ≡ true → length (box_if_any (four "idat") bytes_in (i ∷ is)) ≡ cond (length (bytes_in (i ∷ is)) == 0) 0 (box_len (length (bytes_in (i ∷ is))))
+idat_first : (i : Item) (is : List Item) → has_bytes i.bytes ≡ true
+    → length (box_if_any (four "idat") bytes_in (i ∷ is)) ≡ cond (length (bytes_in (i ∷ is)) == 0) 0 (box_len (length (bytes_in (i ∷ is))))
 unfolding bytes_in
 idat_first i is some =
     let more = flat_map (λ (j : Item). j.bytes) is in
@@ -61,7 +64,8 @@ idat_first i is some =
     length-box_if_any (four "idat") bytes_in (i ∷ is) refl ∙ ap (λ b. cond b 0 (box_len (length (i.bytes ++ more)))) (eqb-suc-zero (length is) ∙ sym test)
 
 -- `idat` is absent where it would have no bytes
-pub length-idat : (is : List Item) → length (box_if_any (four "idat") bytes_in (filter in_idat is)) ≡ cond (length (bytes_in (filter in_idat is)) == 0) 0 (box_len (length (bytes_in (filter in_idat is))))
+pub length-idat : (is : List Item)
+    → length (box_if_any (four "idat") bytes_in (filter in_idat is)) ≡ cond (length (idat_body is) == 0) 0 (box_len (length (idat_body is)))
 length-idat [] = unfold box_if_any bytes_in in refl
 length-idat (i ∷ is) =
     elim (cases_Bool (in_idat i)) [
@@ -86,74 +90,105 @@ pub length-groups : (gs : List Group) → length (grpl_body gs) ≡ groups_size 
 unfolding grpl_body
 length-groups gs = length-flat_map group_box gs
 
+-- the bytes of the entries for these items, and of so many entries with so many associations
+abbrev entries_len : Bool → Bool → List Prop → List Item → ℕ
+entries_len wide two_bytes table is = length (flat_map (ipma_entry wide two_bytes) (map (assoc_of table) is))
+
+abbrev counted_len : Bool → Bool → ℕ → ℕ → ℕ
+counted_len wide two_bytes entries picks = entries * (1 + id_width wide) + picks * (1 + bit two_bytes)
+
 -- the entries of `ipma`, behind one that is there or not
 assoc_here : (wide two_bytes : Bool) (table : List Prop) (i : Item) (is : List Item) (n : ℕ) (b : Bool) → has_props i ≡ b
-    → length (flat_map (ipma_entry wide two_bytes) (map (assoc_of table) is)) ≡ length is * (1 + id_width wide) + n * (1 + bit two_bytes)
-    → length (flat_map (ipma_entry wide two_bytes) (map (assoc_of table) (cond b (i ∷ is) is))) ≡ length (cond b (i ∷ is) is) * (1 + id_width wide) + (length i.props + n) * (1 + bit two_bytes)
+    → entries_len wide two_bytes table is ≡ counted_len wide two_bytes (length is) n
+    → entries_len wide two_bytes table (cond b (i ∷ is) is) ≡ counted_len wide two_bytes (length (cond b (i ∷ is) is)) (length i.props + n)
 assoc_here wide two_bytes table i is n true some rest =
     let entry : length (ipma_entry wide two_bytes (assoc_of table i)) ≡ id_width wide + 1 + length i.props * (1 + bit two_bytes) =
     length-ipma_entry wide two_bytes (assoc_of table i) ∙ ap (λ k. id_width wide + 1 + k * (1 + bit two_bytes)) (length-map i.props (pick_of table))
     in
-    let made : length (flat_map (ipma_entry wide two_bytes) (map (assoc_of table) (i ∷ is))) ≡ (1 + length is) * (1 + id_width wide) + (length i.props + n) * (1 + bit two_bytes) =
-    omega (arith, length-append (ipma_entry wide two_bytes (assoc_of table i)) (flat_map (ipma_entry wide two_bytes) (map (assoc_of table) is)), entry, rest)
-    in
-    made ∙ ap (λ k. k * (1 + id_width wide) + (length i.props + n) * (1 + bit two_bytes)) (omega arith)
+    let both = length-append (ipma_entry wide two_bytes (assoc_of table i)) (flat_map (ipma_entry wide two_bytes) (map (assoc_of table) is)) in
+    let made : entries_len wide two_bytes table (i ∷ is) ≡ counted_len wide two_bytes (1 + length is) (length i.props + n) = omega (arith, both, entry, rest) in
+    made ∙ ap (λ k. counted_len wide two_bytes k (length i.props + n)) (omega arith)
 assoc_here wide two_bytes table i is n false none rest =
     let empty : length i.props ≡ 0 = omega (arith, ltb-false _ _ none) in
-    rest ∙ ap (λ k. length is * (1 + id_width wide) + k * (1 + bit two_bytes)) (omega (arith, empty))
+    rest ∙ ap (counted_len wide two_bytes (length is)) (omega (arith, empty))
+
+abbrev picks_in : List Item → ℕ
+picks_in is = sum_by (λ (i : Item). length i.props) is
 
 pub length-assocs : (wide two_bytes : Bool) (table : List Prop) (is : List Item)
-    → length (flat_map (ipma_entry wide two_bytes) (assocs_of table is)) ≡ length (filter has_props is) * (1 + id_width wide) + sum_by (λ (i : Item). length i.props) is * (1 + bit two_bytes)
+    → entries_len wide two_bytes table (filter has_props is) ≡ counted_len wide two_bytes (length (filter has_props is)) (picks_in is)
 length-assocs wide two_bytes table [] = omega arith
 length-assocs wide two_bytes table (i ∷ is) =
     let sum = sum_by-cons (λ (j : Item). length j.props) i is in
-    assoc_here wide two_bytes table i (filter has_props is) (sum_by (λ (j : Item). length j.props) is) (has_props i) refl (length-assocs wide two_bytes table is)
-    ∙ ap (λ n. length (filter has_props (i ∷ is)) * (1 + id_width wide) + n * (1 + bit two_bytes)) (sym sum)
+    assoc_here wide two_bytes table i (filter has_props is) (picks_in is) (has_props i) refl (length-assocs wide two_bytes table is)
+    ∙ ap (counted_len wide two_bytes (length (filter has_props (i ∷ is)))) (sym sum)
 
 -- ---- the boxes of the file
 
 boxed : (kind : FourCc) (body : List ℕ) (n : ℕ) → length kind.0 ≡ 4 → length body ≡ n → length (box kind body) ≡ box_len n
 boxed kind body n four is = length-box kind body four ∙ ap box_len is
 
-pub iinf-counted : (wide : Bool) (s : ItemStore) → length (box (four "iinf") (iinf_body wide (infos_of s.items))) ≡ box_len (4 + id_width wide + infes_size wide s.items)
-iinf-counted wide s = boxed (four "iinf") (iinf_body wide (infos_of s.items)) _ refl (length-iinf_body wide (infos_of s.items) ∙ ap (λ n. 4 + id_width wide + n) (length-infes wide s.items))
+pub iinf-counted : (wide : Bool) (s : ItemStore)
+    → length (box (four "iinf") (iinf_body wide (infos_of s.items))) ≡ box_len (4 + id_width wide + infes_size wide s.items)
+iinf-counted wide s =
+    let body = length-iinf_body wide (infos_of s.items) ∙ ap (λ n. 4 + id_width wide + n) (length-infes wide s.items) in
+    boxed (four "iinf") (iinf_body wide (infos_of s.items)) _ refl body
 
-pub iref-counted : (wide : Bool) (s : ItemStore) → length (box_if_any (four "iref") (iref_body wide) (all_boxes s.items)) ≡ cond ((counts_of s).links == 0) 0 (box_len (4 + links_size wide s.items))
+pub iref-counted : (wide : Bool) (s : ItemStore)
+    → length (box_if_any (four "iref") (iref_body wide) (all_boxes s.items)) ≡ cond ((counts_of s).links == 0) 0 (box_len (4 + links_size wide s.items))
 iref-counted wide s =
     let boxes = all_boxes s.items in
-    length-box_if_any (four "iref") (iref_body wide) boxes refl ∙ ap (λ n. cond (n == 0) 0 (box_len (length (iref_body wide boxes)))) (sym (counts_are s).links) ∙ ap (λ n. cond ((counts_of s).links == 0) 0 (box_len n)) (length-links wide boxes)
+    length-box_if_any (four "iref") (iref_body wide) boxes refl
+    ∙ ap (λ n. cond (n == 0) 0 (box_len (length (iref_body wide boxes)))) (sym (counts_are s).links)
+    ∙ ap (λ n. cond ((counts_of s).links == 0) 0 (box_len n)) (length-links wide boxes)
 
 pub ipco-counted : (s : ItemStore) → length (box (four "ipco") (ipco_body (table_of s))) ≡ box_len (props_size (table_of s))
 ipco-counted s = boxed (four "ipco") (ipco_body (table_of s)) _ refl (length-props (table_of s))
 
-picks_sum : (s : ItemStore) → (counts_of s).picks ≡ sum_by (λ (i : Item). length i.props) s.items
+picks_sum : (s : ItemStore) → (counts_of s).picks ≡ picks_in s.items
 unfolding counts_of
 picks_sum s = omega (arith, sum-zero s.groups)
 
-pub ipma-counted : (wide : Bool) (s : ItemStore) → length (box (four "ipma") (ipma_body wide (is_long_table (table_of s)) (assocs_of (table_of s) s.items))) ≡ ipma_size wide (length (table_of s)) (counts_of s)
+abbrev ipma_of : Bool → ItemStore → List ℕ
+ipma_of wide s = ipma_body wide (is_long_table (table_of s)) (assocs_of (table_of s) s.items)
+
+pub ipma-counted : (wide : Bool) (s : ItemStore) → length (box (four "ipma") (ipma_of wide s)) ≡ ipma_size wide (length (table_of s)) (counts_of s)
 ipma-counted wide s =
     let two_bytes = is_long_table (table_of s) in
     let c = counts_of s in
-    let assocs : length (flat_map (ipma_entry wide two_bytes) (assocs_of (table_of s) s.items)) ≡ c.holders * (1 + id_width wide) + c.picks * (1 + bit two_bytes) =
-    length-assocs wide two_bytes (table_of s) s.items ∙ ap (λ n. n * (1 + id_width wide) + sum_by (λ (i : Item). length i.props) s.items * (1 + bit two_bytes)) (sym (counts_are s).holders) ∙ ap (λ n. c.holders * (1 + id_width wide) + n * (1 + bit two_bytes)) (sym (picks_sum s))
+    let assocs : length (flat_map (ipma_entry wide two_bytes) (assocs_of (table_of s) s.items)) ≡ counted_len wide two_bytes c.holders c.picks =
+    length-assocs wide two_bytes (table_of s) s.items
+    ∙ ap (λ n. counted_len wide two_bytes n (picks_in s.items)) (sym (counts_are s).holders)
+    ∙ ap (counted_len wide two_bytes c.holders) (sym (picks_sum s))
     in
-    boxed (four "ipma") (ipma_body wide two_bytes (assocs_of (table_of s) s.items)) _ refl (omega (arith, length-ipma_body wide two_bytes (assocs_of (table_of s) s.items), assocs))
+    let body = length-ipma_body wide two_bytes (assocs_of (table_of s) s.items) in
+    boxed (four "ipma") (ipma_of wide s) _ refl (omega (arith, body, assocs))
 
-pub iprp-counted : (wide : Bool) (s : ItemStore) → length (box (four "iprp") (iprp_body wide (iprp_of s))) ≡ box_len (box_len (props_size (table_of s)) + ipma_size wide (length (table_of s)) (counts_of s))
+iprp_body-counted : (wide : Bool) (s : ItemStore)
+    → length (iprp_body wide (iprp_of s)) ≡ box_len (props_size (table_of s)) + ipma_size wide (length (table_of s)) (counts_of s)
 unfolding iprp_body
-iprp-counted wide s =
-    boxed (four "iprp") (iprp_body wide (iprp_of s)) _ refl (length-append (box (four "ipco") (ipco_body (table_of s))) _ ∙ ap (λ n. n + length (box (four "ipma") (ipma_body wide (is_long_table (table_of s)) (assocs_of (table_of s) s.items)))) (ipco-counted s) ∙ ap (λ n. box_len (props_size (table_of s)) + n) (ipma-counted wide s))
+iprp_body-counted wide s =
+    length-append (box (four "ipco") (ipco_body (table_of s))) (box (four "ipma") (ipma_of wide s))
+    ∙ ap (λ n. n + length (box (four "ipma") (ipma_of wide s))) (ipco-counted s)
+    ∙ ap (λ n. box_len (props_size (table_of s)) + n) (ipma-counted wide s)
+
+pub iprp-counted : (wide : Bool) (s : ItemStore)
+    → length (box (four "iprp") (iprp_body wide (iprp_of s))) ≡ box_len (box_len (props_size (table_of s)) + ipma_size wide (length (table_of s)) (counts_of s))
+iprp-counted wide s = boxed (four "iprp") (iprp_body wide (iprp_of s)) _ refl (iprp_body-counted wide s)
 
 pub grpl-counted : (s : ItemStore) → length (box_if_any (four "grpl") grpl_body s.groups) ≡ cond ((counts_of s).groups == 0) 0 (box_len (groups_size s.groups))
 grpl-counted s =
-    length-box_if_any (four "grpl") grpl_body s.groups refl ∙ ap (λ n. cond (n == 0) 0 (box_len (length (grpl_body s.groups)))) (sym (counts_are s).groups) ∙ ap (λ n. cond ((counts_of s).groups == 0) 0 (box_len n)) (length-groups s.groups)
+    length-box_if_any (four "grpl") grpl_body s.groups refl ∙ ap (λ n. cond (n == 0) 0 (box_len (length (grpl_body s.groups)))) (sym (counts_are s).groups)
+    ∙ ap (λ n. cond ((counts_of s).groups == 0) 0 (box_len n)) (length-groups s.groups)
 
 pub idat-counted : (s : ItemStore) → length (box_if_any (four "idat") bytes_in (filter in_idat s.items)) ≡ idat_size (counts_of s)
 idat-counted s = length-idat s.items ∙ ap (λ n. cond (n == 0) 0 (box_len n)) (sym (counts_are s).idat)
 
-pub iloc-counted : (wide : Bool) (s : ItemStore) (home : Homes) (w file_len : ℕ) → length (box (four "iloc") (iloc_body wide w (entries_of home file_len s.items))) ≡ iloc_size wide w (counts_of s)
+pub iloc-counted : (wide : Bool) (s : ItemStore) (home : Homes) (w file_len : ℕ)
+    → length (box (four "iloc") (iloc_body wide w (entries_of home file_len s.items))) ≡ iloc_size wide w (counts_of s)
 iloc-counted wide s home w file_len =
-    boxed (four "iloc") (iloc_body wide w (entries_of home file_len s.items)) _ refl (length-iloc_body home wide w file_len s.items ∙ ap (λ n. 6 + id_width wide + n * (6 + id_width wide + (w + w))) (sym (counts_are s).located))
+    let located = ap (λ n. 6 + id_width wide + n * (6 + id_width wide + (w + w))) (sym (counts_are s).located) in
+    boxed (four "iloc") (iloc_body wide w (entries_of home file_len s.items)) _ refl (length-iloc_body home wide w file_len s.items ∙ located)
 
 pub mdat-counted : (s : ItemStore) → length (box (four "mdat") (mdat_body own s.items)) ≡ mdat_size (counts_of s)
 mdat-counted s = boxed (four "mdat") (mdat_body own s.items) _ refl (sym (counts_are s).mdat)
@@ -165,17 +200,22 @@ pitm-size : (wide : Bool) (id : ℕ) → box_len (length (pitm_body wide id)) �
 pitm-size true id = ap box_len (length-pitm_body true id) ∙ box_len-short 8 (omega arith)
 pitm-size false id = ap box_len (length-pitm_body false id) ∙ box_len-short 6 (omega arith)
 
-pub meta-counted : (s : ItemStore) (home : Homes) (w file_len : ℕ) → length (box (four "meta") (meta_body home w file_len s)) ≡ meta_size_by (is_wide s.items) w (length (table_of s)) (counts_of s) (inner_of s)
+pub meta-counted : (s : ItemStore) (home : Homes) (w file_len : ℕ)
+    → length (box (four "meta") (meta_body home w file_len s)) ≡ meta_size_by (is_wide s.items) w (length (table_of s)) (counts_of s) (inner_of s)
 unfolding inner_of meta_body_len
 meta-counted s home w file_len =
     let wide = is_wide s.items in
     let hdlr : box_len (length hdlr_body) ≡ 33 = ap box_len length-hdlr_body ∙ box_len-short 25 (omega arith) in
     let iinf = sym (length-box (four "iinf") (iinf_body wide (infos_of s.items)) refl) ∙ iinf-counted wide s in
     let iprp = sym (length-box (four "iprp") (iprp_body wide (iprp_of s)) refl) ∙ iprp-counted wide s in
-    let iloc : box_len (6 + id_width wide + length (with_bytes s.items) * (6 + id_width wide + (w + w))) ≡ iloc_size wide w (counts_of s) = ap (λ n. box_len (6 + id_width wide + n * (6 + id_width wide + (w + w)))) (sym (counts_are s).located) in
-    boxed (four "meta") (meta_body home w file_len s) _ refl (omega (arith, length-meta_body home w file_len s, length-meta_front s, hdlr, pitm-size wide s.primary, iinf, iref-counted wide s, iprp, grpl-counted s, idat-counted s, iloc))
+    let iloc = ap (λ n. box_len (6 + id_width wide + n * (6 + id_width wide + (w + w)))) (sym (counts_are s).located) in
+    let front = length-meta_front s in
+    let body = length-meta_body home w file_len s in
+    boxed (four "meta") (meta_body home w file_len s) _ refl
+    (omega (arith, body, front, hdlr, pitm-size wide s.primary, iinf, iref-counted wide s, iprp, grpl-counted s, idat-counted s, iloc))
 
-pub file-counted : (s : ItemStore) (w file_len : ℕ) → IsFour s.brands.major → length (laid own w file_len s) ≡ file_size_by (is_wide s.items) w (length (table_of s)) s.brands (counts_of s) (inner_of s)
+pub file-counted : (s : ItemStore) (w file_len : ℕ) → IsFour s.brands.major
+    → length (laid own w file_len s) ≡ file_size_by (is_wide s.items) w (length (table_of s)) s.brands (counts_of s) (inner_of s)
 unfolding laid
 file-counted s w file_len major = simp length-append (omega (arith, ftyp-counted s major, meta-counted s own w file_len, mdat-counted s))
 
@@ -197,3 +237,59 @@ sizes_are_counted s =
       ftyp = ftyp-counted s;
       file = file-counted s;
     }
+
+-- ---- bounds
+
+le-width : (wide : Bool) → id_width wide ≤ 4
+le-width true = omega arith
+le-width false = omega arith
+
+if_any-le : (count n : ℕ) → cond (count == 0) 0 (box_len n) ≤ 16 + n
+if_any-le zero n = omega arith
+if_any-le (suc count) n = subst (λ (b : Bool). cond b 0 (box_len n) ≤ 16 + n) (sym (eqb-suc-zero count)) (box_len-le n)
+
+holders-le : (wide : Bool) (n : ℕ) → n * (1 + id_width wide) ≤ n * 5
+holders-le true n = omega arith
+holders-le false n = omega arith
+
+picks-le : (two_bytes : Bool) (n : ℕ) → n * (1 + bit two_bytes) ≤ n * 2
+picks-le true n = omega arith
+picks-le false n = omega arith
+
+located-le : (wide long : Bool) (n : ℕ) → n * (6 + id_width wide + (offset_width long + offset_width long)) ≤ n * 26
+located-le true true n = omega arith
+located-le true false n = omega arith
+located-le false true n = omega arith
+located-le false false n = omega arith
+
+-- `meta` is little longer than what stands in it
+pub meta_size-le : (wide long : Bool) (n : ℕ) (c : Counts) (b : Inner)
+    → meta_size_by wide (offset_width long) n c b ≤ 300 + b.infes + b.links + b.props + b.groups + c.holders * 5 + c.picks * 2 + c.idat + c.located * 26
+meta_size-le wide long n c b =
+    let w = offset_width long in
+    let width = le-width wide in
+    let iinf = box_len-le (4 + id_width wide + b.infes) in
+    let iref = if_any-le c.links (4 + b.links) in
+    let ipco = box_len-le b.props in
+    let ipma = box_len-le (8 + c.holders * (1 + id_width wide) + c.picks * (1 + bit (ltb 127 n))) in
+    let iprp = box_len-le (box_len b.props + ipma_size wide n c) in
+    let grpl = if_any-le c.groups b.groups in
+    let idat = if_any-le c.idat c.idat in
+    let iloc = box_len-le (6 + id_width wide + c.located * (6 + id_width wide + (w + w))) in
+    let inside = 4 + 33 + (12 + id_width wide) + iinf_size wide b + iref_size c b + iprp_size wide n c b + grpl_size c b + idat_size c + iloc_size wide w c in
+    let holders = holders-le wide c.holders in
+    let picks = picks-le (ltb 127 n) c.picks in
+    omega (arith, box_len-le inside, width, iinf, iref, ipco, ipma, iprp, grpl, idat, iloc, holders, picks, located-le wide long c.located)
+
+links-le : (wide : Bool) (links targets : ℕ) → links * (10 + id_width wide) + targets * id_width wide ≤ links * 14 + targets * 4
+links-le true links targets = omega arith
+links-le false links targets = omega arith
+
+infes-le : (wide : Bool) (items : ℕ) → items * (18 + id_width wide) ≤ items * 22
+infes-le true items = omega arith
+infes-le false items = omega arith
+
+-- and no longer than the counts tell
+pub short_inner-le : (wide : Bool) (props : ℕ) (c : Counts) → let b = short_inner wide props c in
+    b.infes + b.links + b.props + b.groups ≤ c.items * 22 + c.strings + c.links * 14 + c.targets * 4 + props + c.groups * 20 + c.entities * 4 + c.tails
+short_inner-le wide props c = omega (arith, links-le wide c.links c.targets, infes-le wide c.items)

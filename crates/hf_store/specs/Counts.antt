@@ -154,7 +154,8 @@ with_groups s gs = record s { groups = gs }
 
 -- an item that goes takes its counts with it
 abbrev pub ItemGoes : Type 0
-ItemGoes = (s : ItemStore) (k : ℕ) (i : Item) → slice_get s.items k ≡ Some i → plus (counts_of (with_items s (remove s.items k))) (counts_of_item i) ≡ counts_of s
+ItemGoes =
+    (s : ItemStore) (k : ℕ) (i : Item) → slice_get s.items k ≡ Some i → plus (counts_of (with_items s (remove s.items k))) (counts_of_item i) ≡ counts_of s
 
 -- one that comes brings its own
 abbrev pub ItemComes : Type 0
@@ -162,14 +163,19 @@ ItemComes = (s : ItemStore) (k : ℕ) (i : Item) → counts_of (with_items s (in
 
 -- and one that stands for another one does both
 abbrev pub ItemChanges : Type 0
-ItemChanges = (s : ItemStore) (k : ℕ) (i j : Item) → slice_get s.items k ≡ Some i → plus (counts_of (with_items s (set s.items k j))) (counts_of_item i) ≡ plus (counts_of s) (counts_of_item j)
+ItemChanges =
+    (s : ItemStore) (k : ℕ) (i j : Item) → slice_get s.items k ≡ Some i
+    → plus (counts_of (with_items s (set s.items k j))) (counts_of_item i) ≡ plus (counts_of s) (counts_of_item j)
 
 -- the same of groups
 abbrev pub GroupGoes : Type 0
-GroupGoes = (s : ItemStore) (k : ℕ) (g : Group) → slice_get s.groups k ≡ Some g → plus (counts_of (with_groups s (remove s.groups k))) (counts_of_group g) ≡ counts_of s
+GroupGoes =
+    (s : ItemStore) (k : ℕ) (g : Group) → slice_get s.groups k ≡ Some g → plus (counts_of (with_groups s (remove s.groups k))) (counts_of_group g) ≡ counts_of s
 
 abbrev pub GroupComes : Type 0
 GroupComes = (s : ItemStore) (k : ℕ) (g : Group) → counts_of (with_groups s (insert s.groups k g)) ≡ plus (counts_of s) (counts_of_group g)
 
 abbrev pub GroupChanges : Type 0
-GroupChanges = (s : ItemStore) (k : ℕ) (g h : Group) → slice_get s.groups k ≡ Some g → plus (counts_of (with_groups s (set s.groups k h))) (counts_of_group g) ≡ plus (counts_of s) (counts_of_group h)
+GroupChanges =
+    (s : ItemStore) (k : ℕ) (g h : Group) → slice_get s.groups k ≡ Some g
+    → plus (counts_of (with_groups s (set s.groups k h))) (counts_of_group g) ≡ plus (counts_of s) (counts_of_group h)

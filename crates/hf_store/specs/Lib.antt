@@ -4,6 +4,7 @@ pub mod Counts
 pub mod Derived
 pub mod LargeStores
 pub mod Layout
+pub mod Offsets
 pub mod LimitStores
 pub mod Lists
 pub mod Picks

@@ -1,5 +1,5 @@
 -- How long the boxes of a canonical file are, told by counts.
-use Rattle.std.specs.Prelude.{◌≡◌, ◌+◌, ◌-◌, ◌*◌, ◌^◌, ◌<◌, ◌≤◌, ◌==◌, ℕ, Bool, List, length, filter, slice_get, Some, nat_lt, if◌then◌else◌}
+use Rattle.std.specs.Prelude.{◌≡◌, ◌⊎◌, ◌+◌, ◌*◌, ◌^◌, ◌<◌, ◌≤◌, ◌==◌, ℕ, Bool, List, length, filter, nat_lt, if◌then◌else◌}
 use Rattle.std.specs.List.{AllByRecursion, sum_by}
 use Rattle.hf_base.specs.declared.limits.TheConstants as limits
 use Rattle.hf_base.specs.declared.loc.RefBox.{RefBox}
@@ -14,12 +14,11 @@ use Rattle.hf_links.specs.Iref.{reference_box, iref_body}
 use Rattle.hf_loc.specs.Iloc.{iloc_body}
 use Rattle.hf_prop.specs.Ipma.{ipma_body}
 use Rattle.hf_prop.specs.Iprp.{is_long_table, ipco_body, iprp_body}
-use Rattle.hf_store.specs.Counts.{Counts, strings_of, counts_of, counts_of_items, counts_before}
-use Rattle.hf_store.specs.Layout.{Homes, own, is_wide, info_of, infos_of, all_boxes, assocs_of, iprp_of, in_idat, bytes_in, entries_of, offset_of, box_if_any, mdat_body, meta_body, laid}
-use Rattle.hf_store.specs.Lists.{RisesFrom}
-use Rattle.hf_store.specs.Store.{Prop, RefList, Item, Group, ItemStore, ids_of}
+use Rattle.hf_store.specs.Counts.{Counts, strings_of, counts_of}
+use Rattle.hf_store.specs.Layout.{Homes, own, is_wide, info_of, infos_of, all_boxes, assocs_of, iprp_of, in_idat, bytes_in, entries_of, box_if_any, mdat_body, meta_body, laid}
+use Rattle.hf_store.specs.Store.{Prop, Held, RefList, Item, Group, ItemStore}
 use Rattle.hf_store.specs.Table.{table_of}
-use Rattle.hf_store.specs.Valid.{IsFour, Valid}
+use Rattle.hf_store.specs.Valid.{IsFour, meta_len, Valid}
 
 -- ---- the boxes inside others
 
@@ -30,17 +29,26 @@ pub record Inner : Type 0 where
   pub props : ℕ
   pub groups : ℕ
 
+abbrev pub infe_size : Bool → Item → ℕ
+infe_size wide i = length (infe_box wide (info_of i))
+
 abbrev pub infes_size : Bool → List Item → ℕ
-infes_size wide is = sum_by (λ (i : Item). length (infe_box wide (info_of i))) is
+infes_size wide is = sum_by (infe_size wide) is
 
 abbrev pub links_size : Bool → List Item → ℕ
 links_size wide is = sum_by (λ (b : RefBox). length (reference_box wide b)) (all_boxes is)
 
+abbrev pub prop_box_size : Prop → ℕ
+prop_box_size p = length (box p.kind p.body)
+
 abbrev pub props_size : List Prop → ℕ
-props_size ps = sum_by (λ (p : Prop). length (box p.kind p.body)) ps
+props_size ps = sum_by prop_box_size ps
+
+abbrev pub group_size : Group → ℕ
+group_size g = length (group_box g)
 
 abbrev pub groups_size : List Group → ℕ
-groups_size gs = sum_by (λ (g : Group). length (group_box g)) gs
+groups_size gs = sum_by group_size gs
 
 -- those of a store, as they are laid, whatever their headers
 unfoldable pub inner_of : ItemStore → Inner
@@ -105,9 +113,18 @@ abbrev pub iloc_size : Bool → ℕ → Counts → ℕ
 iloc_size wide w c = box_len (6 + id_width wide + c.located * (6 + id_width wide + (w + w)))
 
 -- version and flags, `hdlr`, `pitm`, and the others
+abbrev pub meta_body_size : Bool → ℕ → ℕ → Counts → Inner → ℕ
+meta_body_size wide w n c inner =
+    (4 + 33 + (12 + id_width wide))
+    + iinf_size wide inner
+    + iref_size c inner
+    + iprp_size wide n c inner
+    + grpl_size c inner
+    + idat_size c
+    + iloc_size wide w c
+
 abbrev pub meta_size_by : Bool → ℕ → ℕ → Counts → Inner → ℕ
-meta_size_by wide w n c inner =
-    box_len (4 + 33 + (12 + id_width wide) + iinf_size wide inner + iref_size c inner + iprp_size wide n c inner + grpl_size c inner + idat_size c + iloc_size wide w c)
+meta_size_by wide w n c inner = box_len (meta_body_size wide w n c inner)
 
 abbrev pub mdat_size : Counts → ℕ
 mdat_size c = box_len c.mdat
@@ -140,6 +157,28 @@ pub record AreSizes (s : ItemStore) (wide : Bool) (n : ℕ) (c : Counts) (b : In
 abbrev pub SizesAreCounted : Type 0
 SizesAreCounted = (s : ItemStore) → AreSizes s (is_wide s.items) (length (table_of s)) (counts_of s) (inner_of s)
 
+-- ---- what holds of all
+
+-- of the reference lists of these items
+abbrev pub AllRefs : (RefList → Type 0) → List Item → Type 0
+AllRefs P is = AllByRecursion (λ (i : Item). AllByRecursion P i.refs) is
+
+-- of their properties
+abbrev pub AllProps : (Prop → Type 0) → List Item → Type 0
+AllProps P is = AllByRecursion (λ (i : Item). AllByRecursion (λ (h : Held). P h.prop) i.props) is
+
+abbrev pub IsFourItem : Item → Type 0
+IsFourItem i = IsFour i.kind
+
+abbrev pub IsFourList : RefList → Type 0
+IsFourList r = IsFour r.kind
+
+abbrev pub IsFourProp : Prop → Type 0
+IsFourProp p = IsFour p.kind
+
+abbrev pub IsFourGroup : Group → Type 0
+IsFourGroup g = IsFour g.kind
+
 -- ---- inner boxes with headers of eight bytes
 
 -- whether ids take two bytes or four
@@ -147,7 +186,7 @@ abbrev pub IsShortItem : Item → Type 0
 IsShortItem i = IsFour i.kind × (22 + strings_of i < 256 ^ 4)
 
 abbrev pub IsShortList : RefList → Type 0
-IsShortList r = IsFour r.kind × (length r.to ≤ limits.LINKS)
+IsShortList r = IsFour r.kind × (14 + length r.to * 4 < 256 ^ 4)
 
 abbrev pub IsShortProp : Prop → Type 0
 IsShortProp p = IsFour p.kind × (8 + length p.body < 256 ^ 4)
@@ -160,7 +199,8 @@ abbrev pub InfesAreCounted : Type 0
 InfesAreCounted = (s : ItemStore) (wide : Bool) → AllByRecursion IsShortItem s.items → infes_size wide s.items ≡ short_infes wide (counts_of s)
 
 abbrev pub LinksAreCounted : Type 0
-LinksAreCounted = (s : ItemStore) (wide : Bool) → AllByRecursion (λ (i : Item). AllByRecursion IsShortList i.refs) s.items → links_size wide s.items ≡ short_links wide (counts_of s)
+LinksAreCounted =
+    (s : ItemStore) (wide : Bool) → AllRefs IsShortList s.items → links_size wide s.items ≡ short_links wide (counts_of s)
 
 abbrev pub PropsAreCounted : Type 0
 PropsAreCounted = (ps : List Prop) → AllByRecursion IsShortProp ps → props_size ps ≡ short_props ps
@@ -168,11 +208,43 @@ PropsAreCounted = (ps : List Prop) → AllByRecursion IsShortProp ps → props_s
 abbrev pub GroupsAreCounted : Type 0
 GroupsAreCounted = (s : ItemStore) → AllByRecursion IsShortGroup s.groups → groups_size s.groups ≡ short_groups (counts_of s)
 
--- in a valid store all of them are short
-abbrev pub ValidIsShort : Type 0
-ValidIsShort = (s : ItemStore) → Valid s → inner_of s ≡ short_inner (is_wide s.items) (short_props (table_of s)) (counts_of s)
+-- the types of items, references, properties and groups have four bytes
+pub record AreFours (s : ItemStore) : Type 0 where
+  pub items : AllByRecursion IsFourItem s.items
+  pub lists : AllRefs IsFourList s.items
+  pub props : AllProps IsFourProp s.items
+  pub groups : AllByRecursion IsFourGroup s.groups
 
--- so that all lengths follow from the counts, the number of distinct properties, and the bytes of their boxes
+-- those of a store, by its counts
+abbrev pub counted_inner : ItemStore → Inner
+counted_inner s = short_inner (is_wide s.items) (short_props (table_of s)) (counts_of s)
+
+-- and the length of its `meta` with offsets of eight bytes
+abbrev pub counted_meta : ItemStore → ℕ
+counted_meta s = meta_size_by (is_wide s.items) 8 (length (table_of s)) (counts_of s) (counted_inner s)
+
+-- where `meta` is within its limit, as it is or by the counts, all of them are short, and so it is both or neither
+abbrev pub MetaIsCounted : Type 0
+MetaIsCounted =
+    (s : ItemStore) → AreFours s → (meta_len s ≤ limits.META) ⊎ (counted_meta s ≤ limits.META) → (inner_of s ≡ counted_inner s) × (meta_len s ≡ counted_meta s)
+
+-- the same for a longer `meta`: entries of `iinf` and groups as they are, the others by the counts
+abbrev pub long_inner : ItemStore → Inner
+long_inner s = record {
+  infes = infes_size (is_wide s.items) s.items;
+  links = short_links (is_wide s.items) (counts_of s);
+  props = short_props (table_of s);
+  groups = groups_size s.groups;
+}
+
+-- its length, where all reference lists and properties are short
+abbrev pub LongMetaIsCounted : Type 0
+LongMetaIsCounted =
+    (s : ItemStore) → AllRefs IsShortList s.items → AllProps IsShortProp s.items
+    → (home : Homes) (w file_len : ℕ)
+    → length (box (four "meta") (meta_body home w file_len s)) ≡ meta_size_by (is_wide s.items) w (length (table_of s)) (counts_of s) (long_inner s)
+
+-- in a valid store all lengths follow from the counts, the number of distinct properties, and the bytes of their
+-- boxes
 abbrev pub ValidSizesAreCounted : Type 0
-ValidSizesAreCounted = (s : ItemStore) → Valid s
-    → AreSizes s (is_wide s.items) (length (table_of s)) (counts_of s) (short_inner (is_wide s.items) (short_props (table_of s)) (counts_of s))
+ValidSizesAreCounted = (s : ItemStore) → Valid s → AreSizes s (is_wide s.items) (length (table_of s)) (counts_of s) (counted_inner s)

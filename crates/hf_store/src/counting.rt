@@ -1,6 +1,7 @@
 //! What is counted over a store. Each is the contract of a function that does nothing.
 
-ghost use Rattle.hf_store.specs.Sizes.{SizesAreCounted, InfesAreCounted, LinksAreCounted, PropsAreCounted, GroupsAreCounted, ValidIsShort, ValidSizesAreCounted};
+ghost use Rattle.hf_store.specs.Offsets.{OffsetsAreCounted, NoneBeforeTheFirst, OneMoreBeforeTheNext, AllBeforeTheEnd, RestIsBehind};
+ghost use Rattle.hf_store.specs.Sizes.{SizesAreCounted, InfesAreCounted, LinksAreCounted, PropsAreCounted, GroupsAreCounted, MetaIsCounted, LongMetaIsCounted, ValidSizesAreCounted};
 ghost use Rattle.hf_store.specs.Counts.{CountsAreOfTheLayout, ItemGoes, ItemComes, ItemChanges, GroupGoes, GroupComes, GroupChanges};
 
 /// An item or a group that goes takes its counts with it, one that comes brings its own, and one
@@ -26,17 +27,33 @@ pub fn sizes_are_counted()
 {}
 
 /// The bytes of the boxes inside others follow from the counts where their headers take eight
-/// bytes, as in each valid store.
+/// bytes.
 pub fn short_sizes_are_counted()
     ensures infes { InfesAreCounted }
     ensures links { LinksAreCounted }
     ensures props { PropsAreCounted }
     ensures groups { GroupsAreCounted }
-    ensures valid { ValidIsShort }
+{}
+
+/// `meta` is within its limit exactly where it is so by the counts, and then as long as they tell.
+/// A longer one is as long as they tell with its entries and groups, each with its own header.
+pub fn meta_is_counted()
+    ensures within { MetaIsCounted }
+    ensures long { LongMetaIsCounted }
 {}
 
 /// The lengths of the boxes of a valid store follow from the counts, the number of distinct
 /// properties, and the bytes of their boxes.
 pub fn valid_sizes_are_counted()
     ensures { ValidSizesAreCounted }
+{}
+
+/// The offset that is written for each item follows from the counts of the items before it, which
+/// a loop over the items adds up.
+pub fn offsets_are_counted()
+    ensures offsets { OffsetsAreCounted }
+    ensures first { NoneBeforeTheFirst }
+    ensures next { OneMoreBeforeTheNext }
+    ensures end { AllBeforeTheEnd }
+    ensures rest { RestIsBehind }
 {}

@@ -1,4 +1,4 @@
-use Rattle.hf_store.proofs.ShortSizes.{infes_are_counted, links_are_counted, props_are_counted, groups_are_counted, valid_is_short}
+use Rattle.hf_store.proofs.ShortBoxes.{infes_are_counted, links_are_counted, props_are_counted, groups_are_counted}
 use Rattle.hf_store.proofs.counting.short_sizes_are_counted.Goals as goal
 
 pub returns : goal.returns
@@ -7,5 +7,4 @@ returns c = record {
   links = links_are_counted;
   props = props_are_counted;
   groups = groups_are_counted;
-  valid = valid_is_short;
 }
