@@ -18,9 +18,6 @@ use Rattle.hf_head.specs.Pitm.{pitm_body}
 use Rattle.hf_store.specs.Store.{Item, ItemStore, ids_of}
 use Rattle.hf_info.specs.Infe.{Info, infe_box}
 use Rattle.hf_info.specs.Iinf.{iinf_body}
-use Rattle.hf_links.specs.Grpl.{Group, grpl_body}
-use Rattle.hf_links.specs.Iref.{iref_body}
-use Rattle.hf_base.specs.declared.loc.RefBox.{RefBox}
 use Rattle.hf_loc.specs.Iloc.{offset_width, iloc_entry, entry_text, iloc_version, iloc_body}
 use Rattle.hf_prop.specs.Iprp.{iprp_body}
 use Rattle.hf_store.specs.Layout.{own, is_wide, has_bytes, with_bytes, in_idat, bytes_in, info_of, infos_of, iprp_of, entry_of, entries_of, mdat_body, mdat_offset, idat_offset, offset_of, box_if_any, meta_front, meta_body, laid}
@@ -262,24 +259,11 @@ entry_whole s p i v l o len entry hv hl hlen =
 
 -- ---- meta
 
-seven : (a b c d e f : List ℕ) → a ++ b ++ c ++ d ++ [] ++ e ++ [] ++ [] ++ f ≡ (a ++ (b ++ c)) ++ (d ++ (e ++ f))
-seven a b c d e f = simp (append_assoc, append-nil) refl
-
 meta_body-plain : (s : ItemStore) (w end : ℕ) → IsPlain s → meta_body own w end s
     ≡ (full_box 0 0 ++ (box (four "hdlr") hdlr_body ++ box (four "pitm") (pitm_body (is_wide s.items) s.primary)))
     ++ (box (four "iinf") (iinf_body (is_wide s.items) (infos_of s.items)) ++ (box (four "iprp") (iprp_body (is_wide s.items) (iprp_of s)) ++ box (four "iloc") (iloc_body (is_wide s.items) w (entries_of own end s.items))))
 unfolding meta_body meta_front box_if_any
-meta_body-plain s w end plain =
-    let wide = is_wide s.items in
-    let made : List RefBox → List Group → List Item → List ℕ = λ refs groups small.
-    full_box 0 0 ++ box (four "hdlr") hdlr_body ++ box (four "pitm") (pitm_body wide s.primary) ++ box (four "iinf") (iinf_body wide (infos_of s.items))
-    ++ box_if_any (four "iref") (iref_body wide) refs ++ box (four "iprp") (iprp_body wide (iprp_of s)) ++ box_if_any (four "grpl") grpl_body groups ++ box_if_any (four "idat") bytes_in small
-    ++ box (four "iloc") (iloc_body wide w (entries_of own end s.items))
-    in
-    ap (λ (x : List RefBox). made x s.groups (filter in_idat s.items)) (no_references s.items plain.items)
-    ∙ ap (λ (x : List Group). made [] x (filter in_idat s.items)) plain.groups
-    ∙ ap (made [] []) (none_in_idat s.items plain.items)
-    ∙ seven (full_box 0 0) (box (four "hdlr") hdlr_body) (box (four "pitm") (pitm_body wide s.primary)) (box (four "iinf") (iinf_body wide (infos_of s.items))) (box (four "iprp") (iprp_body wide (iprp_of s))) (box (four "iloc") (iloc_body wide w (entries_of own end s.items)))
+meta_body-plain s w end plain = rw (no_references s.items plain.items, plain.groups, none_in_idat s.items plain.items) (simp (append_assoc, append-nil))
 
 pub meta_whole : (s : ItemStore) (p : Planned) → IsPlain s → IsPlan s p → meta_begin s p ++ meta_end s p ≡ box (four "meta") (meta_body own (offset_width p.long) p.total s)
 meta_whole s p plain plan =
