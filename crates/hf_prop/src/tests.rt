@@ -3,7 +3,7 @@ ghost use Rattle.hf_box.specs.Boxes.{box_of, end_of};
 
 use super::*;
 use hf_base::kinds::{CLAP, IPCO, IPMA, IPRP, ISPE};
-use hf_base::{OpenFault, ReadRefusal, TryClone};
+use hf_base::{OpenFault, ReadRefusal, Series, TryClone};
 use hf_box::BoxView;
 use std::alloc::Global;
 use std::test::Fail;
@@ -68,6 +68,25 @@ fn lists_are_copied(rt: HostRuntime) -> Result<(), Fail> {
     assert_eq!(rt; copied.len(), 2);
     let narrow = [pick(true, 1), pick(false, 2)];
     assert_eq!(rt; copied.get(0).picks.as_slice(), narrow.as_slice());
+    Ok(())
+}
+
+#[test]
+fn held_properties_are_copied(rt: HostRuntime) -> Result<(), Fail> {
+    let mut props = Series::with_capacity(rt.alloc(), 2)?;
+    props.push(Held {
+        essential: true,
+        prop: turn(1),
+    })?;
+    props.push(Held {
+        essential: false,
+        prop: mirror(0),
+    })?;
+    let same = props.try_clone()?;
+    assert_eq!(rt; same.len(), 2);
+    assert!(rt; same.get(0).essential);
+    assert!(rt; !same.get(1).essential);
+    assert_eq!(rt; same.get(1).prop.copy(), mirror(0));
     Ok(())
 }
 

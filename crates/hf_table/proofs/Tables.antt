@@ -9,7 +9,7 @@ use Rattle.hf_base.specs.Members.{IsIn}
 use Rattle.hf_base.specs.declared.four.FourCc.{FourCc}
 use Rattle.hf_box.specs.Walk.{is_kind}
 use Rattle.hf_prop.specs.declared.prop.Prop.{Prop}
-use Rattle.hf_table.specs.Laws.{NumbersSelect}
+use Rattle.hf_table.specs.Laws.{EachIsNumbered}
 use Rattle.hf_table.specs.Table.{same_prop, with_prop, table, number_of}
 
 pub is_kind-is : (a b : FourCc) → is_kind a b ≡ true → a ≡ b
@@ -89,5 +89,5 @@ folded_has p earlier (q ∷ qs) (inr (inr h)) = folded_has p (with_prop earlier 
 pub table_has : (p : Prop) (ps : List Prop) → IsIn p ps → IsIn p (table ps)
 table_has p ps h = folded_has p [] ps (inr h)
 
-pub numbers_select : NumbersSelect
-numbers_select p ps h = number_selects p (table ps) (table_has p ps h)
+pub each_property_is_numbered : EachIsNumbered
+each_property_is_numbered p ps h = number_selects p (table ps) (table_has p ps h)

@@ -13,8 +13,8 @@ use Rattle.hf_table.specs.Uses.{Use, Tallies, IsCount, HasRoom}
 use Rattle.hf_table.specs.declared.table.Table.{Table}
 
 -- a property of a list has a number, and stands at it in the table, counted from 1
-abbrev pub NumbersSelect : Type 0
-NumbersSelect = (p : Prop) (ps : List Prop) → IsIn p ps → (n : ℕ) × (number_of p (table ps) ≡ suc n) × (slice_get (table ps) n ≡ Some p)
+abbrev pub EachIsNumbered : Type 0
+EachIsNumbered = (p : Prop) (ps : List Prop) → IsIn p ps → (n : ℕ) × (number_of p (table ps) ≡ suc n) × (slice_get (table ps) n ≡ Some p)
 
 -- a permutation leaves the length of the table and the sum of the sizes
 abbrev pub OrderIsFree : Type 0

@@ -1,10 +1,10 @@
 //! Laws of the definitions. Each is the contract of a function that does nothing.
 
-ghost use Rattle.hf_table.specs.Laws.{NumbersSelect, OrderIsFree, OnePlaceMore, UsesAreTheTable, LimitsLeaveRoom, TablesAreAlike, PlacesAreThere};
+ghost use Rattle.hf_table.specs.Laws.{EachIsNumbered, OrderIsFree, OnePlaceMore, UsesAreTheTable, LimitsLeaveRoom, TablesAreAlike, PlacesAreThere};
 
 /// The table of some properties has each of them, at its number.
-pub fn numbers_select()
-    ensures { NumbersSelect }
+pub fn each_property_is_numbered()
+    ensures { EachIsNumbered }
 {}
 
 /// Permutations of a list have tables of one length and one sum of sizes.

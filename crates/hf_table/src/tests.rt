@@ -43,7 +43,7 @@ impl<'a> PropLists<'a> for Items<'a> {
         self.items.len()
     }
 
-    #[tactic(auto, using(crate::proofs::Passes::mapped-at))]
+    #[tactic(auto, using(crate::proofs::Passes::mapped_at))]
     fn props_at(&self, i: usize) -> &[Held<'a>] {
         self.items[i].props.as_slice()
     }
