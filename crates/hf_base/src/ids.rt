@@ -1,6 +1,8 @@
 //! A list of ids of items or groups.
 
 ghost use Rattle.std.specs.Prelude.{◌≡◌, ◌<◌, ◌++◌, ◌∷◌, [], List, ℕ, length, slice_get, Some, IfOk, OnOk, OnErr};
+ghost use Rattle.std.specs.Fn.{CalledAt};
+ghost use Rattle.std.specs.List.Retain.{IsFiltered};
 
 use crate::fault::NoMemory;
 use std::alloc::Global;
@@ -57,6 +59,14 @@ impl Ids {
         ensures { result.now ≡ self.now }
     {
         self.list.as_slice()
+    }
+
+    /// Leaves the ids alone that pass a test.
+    pub fn retain<F: FnMut(&u32) -> bool>(&mut self, test: F)
+        requires { F.IsAlwaysCallable test }
+        ensures { IsFiltered (CalledAt F.FnMut) test self.old self.new }
+    {
+        self.list.retain(test);
     }
 
     /// The same ids again. `NoMemory` comes where memory was refused.

@@ -1,6 +1,8 @@
 //! Lists inside records, which contracts see as the list of their elements.
 
 ghost use Rattle.std.specs.Prelude.{◌≡◌, [], ◌∷◌, ◌++◌, ◌<◌, length, slice_get, Some, IfOk, OnOk, OnErr};
+ghost use Rattle.std.specs.Fn.{CalledAt};
+ghost use Rattle.std.specs.List.Retain.{IsFiltered};
 
 use crate::fault::NoMemory;
 use std::alloc::Global;
@@ -70,6 +72,20 @@ impl<T> Series<T> {
     {
         self.elements.as_slice()
     }
+
+    /// The elements, in a list that can be changed.
+    pub fn into_vec(self) -> Vec<T>
+        ensures { result.items ≡ self }
+    {
+        self.elements
+    }
+
+    /// The list of these elements.
+    pub fn from_vec(elements: Vec<T>) -> Series<T>
+        ensures { result ≡ elements.items }
+    {
+        Series { elements }
+    }
 }
 
 impl<T: Drop> Series<T> {
@@ -80,6 +96,14 @@ impl<T: Drop> Series<T> {
     {
         self.elements.push(element)?;
         Ok(())
+    }
+
+    /// Leaves the elements alone that pass a test.
+    pub fn retain<F: FnMut(&T) -> bool>(&mut self, test: F)
+        requires { F.IsAlwaysCallable test }
+        ensures { IsFiltered (CalledAt F.FnMut) test self.old self.new }
+    {
+        self.elements.retain(test);
     }
 }
 
