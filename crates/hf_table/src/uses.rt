@@ -90,7 +90,7 @@ impl<'a> Uses<'a> {
     /// changed, and that comes only where the property had no holder.
     pub fn add(&mut self, prop: Prop<'a>) -> Result<(), NoMemory>
         requires few { holders_in self.old prop < 2 ^ 62 }
-        requires room { size_sum (keys_of self.old) + prop_size prop < 2 ^ 64 }
+        requires room { holders_in self.old prop ≡ 0 → size_sum (keys_of self.old) + prop_size prop < 2 ^ 64 }
         ensures gains { OnOk result (Gains self.old (prop.entry ∷ []) self.new) }
         ensures bytes { OnOk result (size_sum (keys_of self.new) ≤ size_sum (keys_of self.old) + prop_size prop.entry) }
         ensures unchanged { OnErr result (self.new ≡ self.old) }

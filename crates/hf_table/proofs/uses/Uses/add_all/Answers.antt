@@ -13,7 +13,7 @@ add-requires-clause-few c =
     subst (λ p. holders_in c.loop-i.self p < 2 ^ 62) (sym copied) few
 
 pub add-requires-clause-room : goal.add-requires-clause-room
-add-requires-clause-room c =
+add-requires-clause-room c none =
     let h = c.index-props-i.result in
     let bytes = c.loop-i.invariant.bytes in
     let next = sum-next props_in props-join c.args.props.now c.loop-i.i h c.loop-i-test.true c.index-props-i.is prop_size in
