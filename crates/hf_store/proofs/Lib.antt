@@ -3,6 +3,7 @@ pub mod BoxLengths
 pub mod Counted
 pub mod CountsAre
 pub mod Ends
+pub mod FewCounts
 pub mod FieldLengths
 pub mod GridFiles
 pub mod Holders

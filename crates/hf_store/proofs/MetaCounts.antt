@@ -181,22 +181,22 @@ lists_are_short s good =
 
 -- ---- meta
 
-box_holds : (total n : ℕ) → total ≡ box_len n → n ≤ total
+pub box_holds : (total n : ℕ) → total ≡ box_len n → n ≤ total
 box_holds total n e = omega (arith, e, le-box_len n)
 
 -- what stands in a box that is absent where nothing is listed
-le-if_any : (count n body : ℕ) → n ≤ body → (count ≡ 0 → n ≡ 0) → n ≤ cond (count == 0) 0 (box_len body)
+pub le-if_any : (count n body : ℕ) → n ≤ body → (count ≡ 0 → n ≡ 0) → n ≤ cond (count == 0) 0 (box_len body)
 le-if_any zero n body le none = omega (arith, none refl)
 le-if_any (suc count) n body le none = subst (λ (b : Bool). n ≤ cond b 0 (box_len body)) (sym (eqb-suc-zero count)) (omega (arith, le, le-box_len body))
 
 -- the boxes inside others are no longer than `meta`
-record AreWithin (inner : Inner) (top : ℕ) : Type 0 where
-  infes : inner.infes ≤ top
-  links : inner.links ≤ top
-  props : inner.props ≤ top
-  groups : inner.groups ≤ top
+pub record AreWithin (inner : Inner) (top : ℕ) : Type 0 where
+  pub infes : inner.infes ≤ top
+  pub links : inner.links ≤ top
+  pub props : inner.props ≤ top
+  pub groups : inner.groups ≤ top
 
-within-meta : (wide : Bool) (n : ℕ) (c : Counts) (b : Inner) (total : ℕ) → total ≡ meta_size_by wide 8 n c b → (c.links ≡ 0 → b.links ≡ 0)
+pub within-meta : (wide : Bool) (n : ℕ) (c : Counts) (b : Inner) (total : ℕ) → total ≡ meta_size_by wide 8 n c b → (c.links ≡ 0 → b.links ≡ 0)
     → (c.groups ≡ 0 → b.groups ≡ 0) → AreWithin b total
 within-meta wide n c b total is no_links no_groups =
     let meta = box_holds total _ is in
@@ -231,7 +231,7 @@ no_links-laid s wide none = sum-none (λ (b : RefBox). length (reference_box wid
 no_groups-laid : (s : ItemStore) → (counts_of s).groups ≡ 0 → groups_size s.groups ≡ 0
 no_groups-laid s none = sum-none group_size s.groups (omega (arith, none, (counts_are s).groups))
 
-no_links-counted : (s : ItemStore) (wide : Bool) → (counts_of s).links ≡ 0 → short_links wide (counts_of s) ≡ 0
+pub no_links-counted : (s : ItemStore) (wide : Bool) → (counts_of s).links ≡ 0 → short_links wide (counts_of s) ≡ 0
 unfolding counts_of
 no_links-counted s wide none =
     let zero_sum = sum-zero s.groups in
@@ -240,7 +240,7 @@ no_links-counted s wide none =
     ap (λ n. n * (10 + id_width wide) + (counts_of s).targets * id_width wide) none ∙ ap (λ n. 0 * (10 + id_width wide) + n * id_width wide) targets
     ∙ omega arith
 
-no_groups-counted : (s : ItemStore) → (counts_of s).groups ≡ 0 → short_groups (counts_of s) ≡ 0
+pub no_groups-counted : (s : ItemStore) → (counts_of s).groups ≡ 0 → short_groups (counts_of s) ≡ 0
 unfolding counts_of
 no_groups-counted s none =
     let empty : length s.groups ≡ 0 = omega (arith, none, sum-zero s.items, sum-one s.groups) in

@@ -248,3 +248,23 @@ LongMetaIsCounted =
 -- boxes
 abbrev pub ValidSizesAreCounted : Type 0
 ValidSizesAreCounted = (s : ItemStore) → Valid s → AreSizes s (is_wide s.items) (length (table_of s)) (counts_of s) (counted_inner s)
+
+-- each count of a valid store is within the limits of bytes
+pub record AreFew (c : Counts) : Type 0 where
+  pub items : c.items ≤ limits.ITEMS
+  pub located : c.located ≤ limits.ITEMS
+  pub wide : c.wide ≤ limits.ITEMS
+  pub holders : c.holders ≤ limits.ITEMS
+  pub strings : c.strings ≤ limits.META
+  pub links : c.links ≤ limits.META
+  pub targets : c.targets ≤ limits.META
+  pub picks : c.picks ≤ limits.META
+  pub idat : c.idat ≤ limits.META
+  pub body : c.idat + c.mdat ≤ limits.BODY
+  pub groups : c.groups ≤ limits.META
+  pub entities : c.entities ≤ limits.META
+  pub tails : c.tails ≤ limits.META
+
+-- and so are the bytes of the boxes of its properties
+abbrev pub CountsAreFew : Type 0
+CountsAreFew = (s : ItemStore) → Valid s → AreFew (counts_of s) × (short_props (table_of s) ≤ limits.META)

@@ -1,7 +1,7 @@
 //! What is counted over a store. Each is the contract of a function that does nothing.
 
 ghost use Rattle.hf_store.specs.Offsets.{OffsetsAreCounted, NoneBeforeTheFirst, OneMoreBeforeTheNext, AllBeforeTheEnd, RestIsBehind};
-ghost use Rattle.hf_store.specs.Sizes.{SizesAreCounted, InfesAreCounted, LinksAreCounted, PropsAreCounted, GroupsAreCounted, MetaIsCounted, LongMetaIsCounted, ValidSizesAreCounted};
+ghost use Rattle.hf_store.specs.Sizes.{SizesAreCounted, InfesAreCounted, LinksAreCounted, PropsAreCounted, GroupsAreCounted, MetaIsCounted, LongMetaIsCounted, ValidSizesAreCounted, CountsAreFew};
 ghost use Rattle.hf_store.specs.Counts.{CountsAreOfTheLayout, ItemGoes, ItemComes, ItemChanges, GroupGoes, GroupComes, GroupChanges};
 
 /// An item or a group that goes takes its counts with it, one that comes brings its own, and one
@@ -56,4 +56,9 @@ pub fn offsets_are_counted()
     ensures next { OneMoreBeforeTheNext }
     ensures end { AllBeforeTheEnd }
     ensures rest { RestIsBehind }
+{}
+
+/// The counts of a valid store are within the limits.
+pub fn counts_are_few()
+    ensures { CountsAreFew }
 {}
