@@ -22,17 +22,17 @@ fn add_part<'a>(
     pieces: &mut Pieces<'a>,
     source: &'a [u8],
     base: u64,
-    e: &Extent,
+    extent: &Extent,
 ) -> Result<(), NoMemory>
-    requires there { IsSome (piece_of base e.now (Some source.now)) }
-    requires room { ForSome (piece_of base e.now (Some source.now)) (λ p. length (joined pieces.old) + length p ≤ 2 ^ 62) }
-    ensures { IfSome (piece_of base e.now (Some source.now)) (λ p. OnOk result (joined pieces.new ≡ joined pieces.old ++ p)) }
+    requires there { IsSome (piece_of base extent.now (Some source.now)) }
+    requires room { ForSome (piece_of base extent.now (Some source.now)) (λ p. length (joined pieces.old) + length p ≤ 2 ^ 62) }
+    ensures { IfSome (piece_of base extent.now (Some source.now)) (λ p. OnOk result (joined pieces.new ≡ joined pieces.old ++ p)) }
 {
-    if e.length == 0 {
+    if extent.length == 0 {
         return pieces.push(source);
     }
-    let start = (base + e.offset) as usize;
-    pieces.push(&source[start..start + e.length as usize])
+    let start = (base + extent.offset) as usize;
+    pieces.push(&source[start..start + extent.length as usize])
 }
 
 /// What an extent takes of another item, behind other pieces.
@@ -40,17 +40,17 @@ fn add_cut<'a>(
     pieces: &mut Pieces<'a>,
     source: &Pieces<'a>,
     base: u64,
-    e: &Extent,
+    extent: &Extent,
 ) -> Result<(), NoMemory>
-    requires there { IsSome (piece_of base e.now (Some (joined source.now))) }
-    requires room { ForSome (piece_of base e.now (Some (joined source.now))) (λ p. length (joined pieces.old) + length p ≤ 2 ^ 62) }
-    ensures { IfSome (piece_of base e.now (Some (joined source.now))) (λ p. OnOk result (joined pieces.new ≡ joined pieces.old ++ p)) }
+    requires there { IsSome (piece_of base extent.now (Some (joined source.now))) }
+    requires room { ForSome (piece_of base extent.now (Some (joined source.now))) (λ p. length (joined pieces.old) + length p ≤ 2 ^ 62) }
+    ensures { IfSome (piece_of base extent.now (Some (joined source.now))) (λ p. OnOk result (joined pieces.new ≡ joined pieces.old ++ p)) }
 {
     let len = source.len();
-    if e.length == 0 {
+    if extent.length == 0 {
         return pieces.append_cut(source, 0, len);
     }
-    pieces.append_cut(source, base + e.offset, e.length)
+    pieces.append_cut(source, base + extent.offset, extent.length)
 }
 
 /// What an extent takes of its source, behind other pieces.
@@ -60,28 +60,28 @@ fn add_piece<'a>(
     idat: Option<&'a [u8]>,
     ids: &[u32],
     item: &Located<'_>,
-    e: &Extent,
+    extent: &Extent,
     bodies: &[Pieces<'a>],
 ) -> Result<(), NoMemory>
     requires rising { Rises ◌<◌ ids.now }
     requires known { length bodies.now ≡ length ids.now }
-    requires there { IsSome (piece_by file.now (option_copied idat) ids.now (map joined bodies.now) (item_seen item.now) e.now) }
-    requires room { ForSome (piece_by file.now (option_copied idat) ids.now (map joined bodies.now) (item_seen item.now) e.now) (λ p. length (joined pieces.old) + length p ≤ 2 ^ 62) }
-    ensures { IfSome (piece_by file.now (option_copied idat.entry) ids.now (map joined bodies.now) (item_seen item.now) e.now) (λ p. OnOk result (joined pieces.new ≡ joined pieces.old ++ p)) }
+    requires there { IsSome (piece_by file.now (option_copied idat) ids.now (map joined bodies.now) (item_seen item.now) extent.now) }
+    requires room { ForSome (piece_by file.now (option_copied idat) ids.now (map joined bodies.now) (item_seen item.now) extent.now) (λ p. length (joined pieces.old) + length p ≤ 2 ^ 62) }
+    ensures { IfSome (piece_by file.now (option_copied idat.entry) ids.now (map joined bodies.now) (item_seen item.now) extent.now) (λ p. OnOk result (joined pieces.new ≡ joined pieces.old ++ p)) }
 {
     if item.method == 2 {
-        return match source(ids, item, e) {
-            Some(k) => add_cut(pieces, &bodies[k], item.base, e),
+        return match source(ids, item, extent) {
+            Some(at) => add_cut(pieces, &bodies[at], item.base, extent),
             None => Ok(()),
         };
     }
     if item.method == 1 {
         return match idat {
-            Some(inner) => add_part(pieces, inner, item.base, e),
+            Some(inner) => add_part(pieces, inner, item.base, extent),
             None => Ok(()),
         };
     }
-    add_part(pieces, file, item.base, e)
+    add_part(pieces, file, item.base, extent)
 }
 
 /// The bytes of an item, where those of the items that it takes bytes from are known.
@@ -100,8 +100,8 @@ fn body<'a>(
     ensures { IfOk result (λ p. bytes_by file.now (option_copied idat.entry) ids.now (map joined bodies.now) (item_seen item.now) ≡ Some (joined p)) }
 {
     let mut pieces = Pieces::new(alloc);
-    for e in item.extents {
-        add_piece(&mut pieces, file, idat, ids, item, e, bodies)?;
+    for extent in item.extents {
+        add_piece(&mut pieces, file, idat, ids, item, extent, bodies)?;
     }
     Ok(pieces)
 }
@@ -133,9 +133,9 @@ pub fn bodies<'a>(
     ensures { IfOk result (λ bodies. map (bytes_are file.now (option_copied idat.entry) (items_seen items.now)) (items_seen items.now) ≡ map (λ p. Some (joined p)) bodies.items) }
 {
     let mut bodies = empty(alloc, ids.len())?;
-    for i in order {
-        let made = body(alloc, file, idat, ids, &items[*i], &bodies)?;
-        let _empty = std::mem::replace(&mut bodies[*i], made);
+    for at in order {
+        let made = body(alloc, file, idat, ids, &items[*at], &bodies)?;
+        let _empty = std::mem::replace(&mut bodies[*at], made);
     }
     Ok(bodies)
 }

@@ -38,27 +38,27 @@ pub fn bad_method(items: &[Located<'_>]) -> Result<(), ReadRefusal>
 }
 
 /// The place behind the last byte of an extent.
-pub fn end_of(item: &Located<'_>, e: &Extent) -> u128
-    ensures { result ≡ end_is (item_seen item.now) e.now }
+pub fn end_of(item: &Located<'_>, extent: &Extent) -> u128
+    ensures { result ≡ end_is (item_seen item.now) extent.now }
 {
-    u128::from(item.base) + u128::from(e.offset) + u128::from(e.length)
+    u128::from(item.base) + u128::from(extent.offset) + u128::from(extent.length)
 }
 
 /// Whether an extent passes the end of a source of so many bytes.
-pub fn passes(len: u128, item: &Located<'_>, e: &Extent) -> bool
-    ensures { result ≡ passes_of len (item_seen item.now) e.now }
+pub fn passes(len: u128, item: &Located<'_>, extent: &Extent) -> bool
+    ensures { result ≡ passes_of len (item_seen item.now) extent.now }
 {
-    end_of(item, e) > len
+    end_of(item, extent) > len
 }
 
 /// Whether the entry takes a whole source.
-fn is_whole(item: &Located<'_>, e: &Extent) -> bool
-    ensures { result ≡ is_whole_of (item_seen item.now) e.now }
+fn is_whole(item: &Located<'_>, extent: &Extent) -> bool
+    ensures { result ≡ is_whole_of (item_seen item.now) extent.now }
 {
     (item.method == 1 || item.method == 2)
         && item.extents.len() == 1
         && item.base == 0
-        && e.offset == 0
+        && extent.offset == 0
 }
 
 /// Whether an extent has length 0 and does not take the whole source.
@@ -67,7 +67,7 @@ fn has_zero_length(item: &Located<'_>) -> bool
 {
     item.extents
         .iter()
-        .any(|e| e.length == 0 && !is_whole(item, e))
+        .any(|extent| extent.length == 0 && !is_whole(item, extent))
 }
 
 /// Whether an extent passes the end of a source of so many bytes.
@@ -76,7 +76,7 @@ fn any_passes(len: u64, item: &Located<'_>) -> bool
 {
     item.extents
         .iter()
-        .any(|e| passes(u128::from(len), item, e))
+        .any(|extent| passes(u128::from(len), item, extent))
 }
 
 /// Whether an extent of method 0 passes the end of a file of so many bytes.

@@ -73,7 +73,7 @@ fn add_link(items: &mut [Located<'_>], ids: &[u32], link: &RefBox) -> Result<(),
         return Ok(());
     }
     match place(ids, link.from) {
-        Some(i) => add_sources(&mut items[i], &link.to),
+        Some(at) => add_sources(&mut items[at], &link.to),
         None => Ok(()),
     }
 }
@@ -85,7 +85,7 @@ fn add_entry<'a>(items: &mut [Located<'a>], ids: &[u32], loc: &'a Loc)
     ensures { (locs : List Entry) (links : List Link) → items_seen items.old ≡ located_items ids.now locs links → loc_of loc.now.id locs ≡ None → items_seen items.new ≡ located_items ids.now (locs ++ loc.now ∷ []) links }
 {
     match place(ids, loc.id) {
-        Some(i) => set_entry(&mut items[i], loc),
+        Some(at) => set_entry(&mut items[at], loc),
         None => {}
     }
 }

@@ -17,32 +17,34 @@ use std::alloc::Global;
 pub fn place(ids: &[u32], id: u32) -> Option<usize>
     requires { Rises ◌<◌ ids.now }
     ensures value { result ≡ id_place ids.now id }
-    ensures within { IfSome result (λ k. k < length ids.now) }
+    ensures within { IfSome result (λ at. at < length ids.now) }
 {
     match ids.binary_search(&id) {
-        Ok(k) => Some(k),
+        Ok(at) => Some(at),
         Err(_) => None,
     }
 }
 
 /// The place of the item that an extent of method 2 takes its bytes from.
-pub fn source(ids: &[u32], item: &Located<'_>, e: &Extent) -> Option<usize>
+pub fn source(ids: &[u32], item: &Located<'_>, extent: &Extent) -> Option<usize>
     requires { Rises ◌<◌ ids.now }
-    ensures value { result ≡ place_of ids.now (item_seen item.now) e.now }
-    ensures within { IfSome result (λ k. k < length ids.now) }
+    ensures value { result ≡ place_of ids.now (item_seen item.now) extent.now }
+    ensures within { IfSome result (λ at. at < length ids.now) }
 {
-    if e.index == 0 || e.index > item.sources.len() as u64 {
+    if extent.index == 0 || extent.index > item.sources.len() as u64 {
         return None;
     }
-    place(ids, item.sources.get((e.index - 1) as usize))
+    place(ids, item.sources.get((extent.index - 1) as usize))
 }
 
 /// Whether an extent has no such item.
 fn any_lacks(ids: &[u32], item: &Located<'_>) -> bool
     requires { Rises ◌<◌ ids.now }
-    ensures { result ≡ list_any (λ e. is_none (place_of ids.now (item_seen item.now) e)) (item_seen item.now).extents }
+    ensures { result ≡ list_any (λ extent. is_none (place_of ids.now (item_seen item.now) extent)) (item_seen item.now).extents }
 {
-    item.extents.iter().any(|e| source(ids, item, e).is_none())
+    item.extents
+        .iter()
+        .any(|extent| source(ids, item, extent).is_none())
 }
 
 /// Whether an extent of method 2 has no such item.
@@ -70,10 +72,10 @@ pub fn bad_index(ids: &[u32], items: &[Located<'_>]) -> Result<(), ReadRefusal>
 
 /// One link more, where there is a place.
 fn add_link(pairs: &mut Vec<(usize, usize)>, i: usize, place: Option<usize>) -> Result<(), NoMemory>
-    ensures { OnOk result (pairs.new.items ≡ pairs.old.items ++ option_to_list (option_map (λ k. (i, k)) place)) }
+    ensures { OnOk result (pairs.new.items ≡ pairs.old.items ++ option_to_list (option_map (λ at. (i, at)) place)) }
 {
-    if let Some(k) = place {
-        pairs.push((i, k))?;
+    if let Some(at) = place {
+        pairs.push((i, at))?;
     }
     Ok(())
 }
@@ -91,8 +93,8 @@ fn add_links(
     if item.method != 2 {
         return Ok(());
     }
-    for e in item.extents {
-        let place = source(ids, item, e);
+    for extent in item.extents {
+        let place = source(ids, item, extent);
         add_link(pairs, i, place)?;
     }
     Ok(())

@@ -23,16 +23,16 @@ use hf_base::{Extent, NoMemory, OpenFault, ReadRefusal};
 use std::alloc::Global;
 
 /// How many leaves an extent has.
-fn leaves_in(ids: &[u32], item: &Located<'_>, e: &Extent, counts: &[u64]) -> u64
+fn leaves_in(ids: &[u32], item: &Located<'_>, extent: &Extent, counts: &[u64]) -> u64
     requires rising { Rises ◌<◌ ids.now }
     requires known { length counts.now ≡ length ids.now }
-    ensures { result ≡ by_method item.now.method 1 1 (at_place counts.now (place_of ids.now (item_seen item.now) e.now)) }
+    ensures { result ≡ by_method item.now.method 1 1 (at_place counts.now (place_of ids.now (item_seen item.now) extent.now)) }
 {
     if item.method != 2 {
         return 1;
     }
-    match source(ids, item, e) {
-        Some(k) => counts[k],
+    match source(ids, item, extent) {
+        Some(at) => counts[at],
         None => 0,
     }
 }
@@ -45,8 +45,8 @@ fn leaves_of(ids: &[u32], item: &Located<'_>, counts: &[u64]) -> u64
     ensures { result ≡ min (leaves_by ids.now counts.now (item_seen item.now)) (2 ^ 64 - 1) }
 {
     let mut total: u64 = 0;
-    for e in item.extents {
-        total = total.saturating_add(leaves_in(ids, item, e, counts));
+    for extent in item.extents {
+        total = total.saturating_add(leaves_in(ids, item, extent, counts));
     }
     total
 }
@@ -66,8 +66,8 @@ pub fn leaves(
     ensures { IfOk result (λ counts. counts.items ≡ map (λ r. min (leaves_are (items_seen items.now) r) (2 ^ 64 - 1)) (items_seen items.now)) }
 {
     let mut counts = vec![in alloc; 0u64; ids.len()]?;
-    for i in order {
-        counts[*i] = leaves_of(ids, &items[*i], &counts);
+    for at in order {
+        counts[*at] = leaves_of(ids, &items[*at], &counts);
     }
     Ok(counts)
 }
@@ -77,8 +77,8 @@ pub fn too_scattered(counts: &[u64]) -> Result<(), ReadRefusal>
     ensures { (items : List Stated) → counts.now ≡ map (λ r. min (leaves_are items r) (2 ^ 64 - 1)) items → Reads (λ x. x) result (too_scattered_fault items) }
 {
     let mut count: u64 = 0;
-    for c in counts {
-        count = count.saturating_add(*c);
+    for leaves in counts {
+        count = count.saturating_add(*leaves);
     }
     if count > PIECES {
         return Err(ReadRefusal::TooScattered { count });
@@ -92,16 +92,16 @@ fn source_size(
     inner: u64,
     ids: &[u32],
     item: &Located<'_>,
-    e: &Extent,
+    extent: &Extent,
     sizes: &[u128],
 ) -> u128
     requires rising { Rises ◌<◌ ids.now }
     requires known { length sizes.now ≡ length ids.now }
-    ensures { result ≡ source_by len inner ids.now sizes.now (item_seen item.now) e.now }
+    ensures { result ≡ source_by len inner ids.now sizes.now (item_seen item.now) extent.now }
 {
     if item.method == 2 {
-        return match source(ids, item, e) {
-            Some(k) => sizes[k],
+        return match source(ids, item, extent) {
+            Some(at) => sizes[at],
             None => 0,
         };
     }
@@ -119,11 +119,11 @@ fn size_of(len: u64, inner: u64, ids: &[u32], item: &Located<'_>, sizes: &[u128]
     ensures { result ≡ min (size_by len inner ids.now sizes.now (item_seen item.now)) (2 ^ 128 - 1) }
 {
     let mut total: u128 = 0;
-    for e in item.extents {
-        let size = if e.length == 0 {
-            source_size(len, inner, ids, item, e, sizes)
+    for extent in item.extents {
+        let size = if extent.length == 0 {
+            source_size(len, inner, ids, item, extent, sizes)
         } else {
-            u128::from(e.length)
+            u128::from(extent.length)
         };
         total = total.saturating_add(size);
     }
@@ -147,8 +147,8 @@ pub fn sizes(
     ensures { IfOk result (λ sizes. sizes.items ≡ stopped len inner (items_seen items.now)) }
 {
     let mut sizes = vec![in alloc; 0u128; ids.len()]?;
-    for i in order {
-        sizes[*i] = size_of(len, inner, ids, &items[*i], &sizes);
+    for at in order {
+        sizes[*at] = size_of(len, inner, ids, &items[*at], &sizes);
     }
     Ok(sizes)
 }
@@ -160,17 +160,17 @@ fn passes_source(
     ids: &[u32],
     items: &[Located<'_>],
     item: &Located<'_>,
-    e: &Extent,
+    extent: &Extent,
     sizes: &[u128],
 ) -> bool
     requires rising { Rises ◌<◌ ids.now }
     requires at { AreAt ids.now (items_seen items.now) }
     requires known { sizes.now ≡ stopped len inner (items_seen items.now) }
-    ensures { result ≡ passes_of (told 0 (size_are len inner (items_seen items.now)) (source_of (items_seen items.now) (item_seen item.now) e.now)) (item_seen item.now) e.now }
+    ensures { result ≡ passes_of (told 0 (size_are len inner (items_seen items.now)) (source_of (items_seen items.now) (item_seen item.now) extent.now)) (item_seen item.now) extent.now }
 {
-    let end = end_of(item, e);
-    match source(ids, item, e) {
-        Some(k) => end > sizes[k],
+    let end = end_of(item, extent);
+    match source(ids, item, extent) {
+        Some(at) => end > sizes[at],
         None => end > 0,
     }
 }
@@ -187,11 +187,9 @@ fn any_passes(
     requires rising { Rises ◌<◌ ids.now }
     requires at { AreAt ids.now (items_seen items.now) }
     requires known { sizes.now ≡ stopped len inner (items_seen items.now) }
-    ensures { result ≡ list_any (λ e. passes_of (told 0 (size_are len inner (items_seen items.now)) (source_of (items_seen items.now) (item_seen item.now) e)) (item_seen item.now) e) (item_seen item.now).extents }
+    ensures { result ≡ list_any (λ extent. passes_of (told 0 (size_are len inner (items_seen items.now)) (source_of (items_seen items.now) (item_seen item.now) extent)) (item_seen item.now) extent) (item_seen item.now).extents }
 {
-    item.extents
-        .iter()
-        .any(|e| passes_source(len, inner, ids, items, item, e, sizes))
+    item.extents.iter().any(|extent| passes_source(len, inner, ids, items, item, extent, sizes))
 }
 
 /// Whether an extent of method 2 passes the end of another item.
@@ -244,8 +242,8 @@ pub fn too_many_bytes(sizes: &[u128]) -> Result<(), ReadRefusal>
     ensures { (F : List ℕ) (idat : Option (List ℕ)) (items : List Stated) → sizes.now ≡ stopped (length F) (inner_size_of idat) items → Reads (λ x. x) result (too_many_bytes_fault F idat items) }
 {
     let mut sum: u128 = 0;
-    for s in sizes {
-        sum = sum.saturating_add(*s);
+    for size in sizes {
+        sum = sum.saturating_add(*size);
     }
     if sum > u128::from(BODY) {
         return Err(ReadRefusal::TooManyBytes { sum: short(sum) });

@@ -6,5 +6,5 @@ use Rattle.hf_extent.specs.Seen.{item_seen}
 use Rattle.hf_extent.specs.Known.{piece_by}
 use Rattle.hf_extent.proofs.bodies.body.Given as goal
 
-abbrev pub invariant-loop-e : goal.invariant-loop-e
-invariant-loop-e l = joined_pieces (map (piece_by l.file (option_copied l.idat) l.ids (map joined l.bodies) (item_seen l.item)) (take l.e-index l.e-items)) ≡ Some (joined l.pieces)
+abbrev pub invariant-loop-extent : goal.invariant-loop-extent
+invariant-loop-extent l = joined_pieces (map (piece_by l.file (option_copied l.idat) l.ids (map joined l.bodies) (item_seen l.item)) (take l.extent-index l.extent-items)) ≡ Some (joined l.pieces)

@@ -6,5 +6,5 @@ use Rattle.hf_extent.specs.Seen.{item_seen}
 use Rattle.hf_extent.specs.Places.{place_of}
 use Rattle.hf_extent.proofs.sources.add_links.Given as goal
 
-abbrev pub invariant-loop-e : goal.invariant-loop-e
-invariant-loop-e l = l.pairs.items ≡ l.fn.pairs.items ++ filter_map (λ (e : Extent). option_map (λ (k : ℕ). (l.i, k)) (place_of l.ids (item_seen l.item) e)) (take l.e-index l.e-items)
+abbrev pub invariant-loop-extent : goal.invariant-loop-extent
+invariant-loop-extent l = l.pairs.items ≡ l.fn.pairs.items ++ filter_map (λ (e : Extent). option_map (λ (k : ℕ). (l.i, k)) (place_of l.ids (item_seen l.item) e)) (take l.extent-index l.extent-items)

@@ -6,5 +6,5 @@ use Rattle.hf_extent.specs.Places.{place_of}
 use Rattle.hf_extent.specs.Known.{at_place}
 use Rattle.hf_extent.proofs.totals.leaves_of.Given as goal
 
-abbrev pub invariant-loop-e : goal.invariant-loop-e
-invariant-loop-e l = l.total ≡ min (sum (map (λ (e : Extent). by_method l.item.method 1 1 (at_place l.counts (place_of l.ids (item_seen l.item) e))) (take l.e-index l.e-items))) (2 ^ 64 - 1)
+abbrev pub invariant-loop-extent : goal.invariant-loop-extent
+invariant-loop-extent l = l.total ≡ min (sum (map (λ (e : Extent). by_method l.item.method 1 1 (at_place l.counts (place_of l.ids (item_seen l.item) e))) (take l.extent-index l.extent-items))) (2 ^ 64 - 1)

@@ -9,8 +9,8 @@ use Rattle.hf_extent.proofs.totals.too_many_bytes.Goals as goal
 pub returns-then-sum-from : goal.returns-then-sum-from
 unfolding too_many_bytes_fault
 returns-then-sum-from c = λ F idat items are.
-    let total : c.loop-s.sum ≡ min (sum (map (size_of (length F) (inner_size idat) items) items)) (2 ^ 128 - 1) =
-    counted (size_of (length F) (inner_size idat) items) (2 ^ 128 - 1) items c.args.sizes.now c.loop-s.sum are (whole_sum c.args.sizes.now c.loop-s.s-index (2 ^ 128 - 1) c.loop-s.sum c.loop-s.invariant c.loop-s-test.false)
+    let total : c.loop-size.sum ≡ min (sum (map (size_of (length F) (inner_size idat) items) items)) (2 ^ 128 - 1) =
+    counted (size_of (length F) (inner_size idat) items) (2 ^ 128 - 1) items c.args.sizes.now c.loop-size.sum are (whole_sum c.args.sizes.now c.loop-size.size-index (2 ^ 128 - 1) c.loop-size.sum c.loop-size.invariant c.loop-size-test.false)
     in
     let told : c.short.result ≡ min (sum (map (size_of (length F) (inner_size idat) items) items)) (2 ^ 64 - 1) = omega (arith, total, c.short.ensures) in
     let over : BODY < c.short.result = omega (arith, c.short.ensures, c.from.ensures, c.if-sum-from.true) in
@@ -19,9 +19,9 @@ returns-then-sum-from c = λ F idat items are.
 pub returns : goal.returns
 unfolding too_many_bytes_fault
 returns c = λ F idat items are.
-    let total : c.loop-s.sum ≡ min (sum (map (size_of (length F) (inner_size idat) items) items)) (2 ^ 128 - 1) =
-    counted (size_of (length F) (inner_size idat) items) (2 ^ 128 - 1) items c.args.sizes.now c.loop-s.sum are (whole_sum c.args.sizes.now c.loop-s.s-index (2 ^ 128 - 1) c.loop-s.sum c.loop-s.invariant c.loop-s-test.false)
+    let total : c.loop-size.sum ≡ min (sum (map (size_of (length F) (inner_size idat) items) items)) (2 ^ 128 - 1) =
+    counted (size_of (length F) (inner_size idat) items) (2 ^ 128 - 1) items c.args.sizes.now c.loop-size.sum are (whole_sum c.args.sizes.now c.loop-size.size-index (2 ^ 128 - 1) c.loop-size.sum c.loop-size.invariant c.loop-size-test.false)
     in
-    let few : c.loop-s.sum ≤ BODY = omega (arith, c.from.ensures, c.if-sum-from.false) in
-    let told : c.loop-s.sum ≡ min (sum (map (size_of (length F) (inner_size idat) items) items)) (2 ^ 64 - 1) = omega (arith, total, few) in
-    limited_within BODY (sum (map (size_of (length F) (inner_size idat) items) items)) c.loop-s.sum (λ total. TooManyBytes total) told few (omega arith)
+    let few : c.loop-size.sum ≤ BODY = omega (arith, c.from.ensures, c.if-sum-from.false) in
+    let told : c.loop-size.sum ≡ min (sum (map (size_of (length F) (inner_size idat) items) items)) (2 ^ 64 - 1) = omega (arith, total, few) in
+    limited_within BODY (sum (map (size_of (length F) (inner_size idat) items) items)) c.loop-size.sum (λ total. TooManyBytes total) told few (omega arith)

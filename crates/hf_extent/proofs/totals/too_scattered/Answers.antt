@@ -9,11 +9,11 @@ use Rattle.hf_extent.proofs.totals.too_scattered.Goals as goal
 pub returns-then-count-gt-PIECES : goal.returns-then-count-gt-PIECES
 unfolding too_scattered_fault
 returns-then-count-gt-PIECES c = λ items are.
-    limited_over PIECES (sum (map (leaves_of items) items)) c.loop-c.count (λ count. TooScattered count)
-    (counted (leaves_of items) (2 ^ 64 - 1) items c.args.counts.now c.loop-c.count are (whole_sum c.args.counts.now c.loop-c.c-index (2 ^ 64 - 1) c.loop-c.count c.loop-c.invariant c.loop-c-test.false)) c.if-count-gt-PIECES.true
+    limited_over PIECES (sum (map (leaves_of items) items)) c.loop-leaves.count (λ count. TooScattered count)
+    (counted (leaves_of items) (2 ^ 64 - 1) items c.args.counts.now c.loop-leaves.count are (whole_sum c.args.counts.now c.loop-leaves.leaves-index (2 ^ 64 - 1) c.loop-leaves.count c.loop-leaves.invariant c.loop-leaves-test.false)) c.if-count-gt-PIECES.true
 
 pub returns : goal.returns
 unfolding too_scattered_fault
 returns c = λ items are.
-    limited_within PIECES (sum (map (leaves_of items) items)) c.loop-c.count (λ count. TooScattered count)
-    (counted (leaves_of items) (2 ^ 64 - 1) items c.args.counts.now c.loop-c.count are (whole_sum c.args.counts.now c.loop-c.c-index (2 ^ 64 - 1) c.loop-c.count c.loop-c.invariant c.loop-c-test.false)) c.if-count-gt-PIECES.false (omega arith)
+    limited_within PIECES (sum (map (leaves_of items) items)) c.loop-leaves.count (λ count. TooScattered count)
+    (counted (leaves_of items) (2 ^ 64 - 1) items c.args.counts.now c.loop-leaves.count are (whole_sum c.args.counts.now c.loop-leaves.leaves-index (2 ^ 64 - 1) c.loop-leaves.count c.loop-leaves.invariant c.loop-leaves-test.false)) c.if-count-gt-PIECES.false (omega arith)
