@@ -14,7 +14,7 @@ use Rattle.hf_links.specs.Grpl.{group_body}
 use Rattle.hf_links.specs.Iref.{reference_body, reference_box}
 use Rattle.hf_store.specs.Counts.{Counts, strings_of, targets_of, counts_of}
 use Rattle.hf_store.specs.Layout.{own, is_wide, info_of, all_boxes}
-use Rattle.hf_store.specs.Sizes.{infe_size, prop_box_size, group_size, AllRefs, AllProps, IsFourItem, IsFourList, IsFourProp, IsFourGroup, Inner, infes_size, links_size, props_size, groups_size, inner_of, short_props, short_links, short_groups, ipma_size, meta_size_by, AreSizes, IsShortItem, IsShortList, IsShortProp, IsShortGroup, AreFours, counted_inner, counted_meta, long_inner, MetaIsCounted, LongMetaIsCounted, ValidSizesAreCounted}
+use Rattle.hf_store.specs.Sizes.{infe_size, prop_box_size, group_size, AllRefs, AllProps, IsFourItem, IsFourList, IsFourProp, IsFourGroup, Inner, infes_size, links_size, props_size, groups_size, inner_of, short_props, short_links, short_groups, ipma_size, meta_size_by, AreSizes, IsShortItem, IsShortList, IsShortProp, IsShortGroup, AreFours, counted_inner, counted_meta, long_inner, MetaIsCounted, LongMetaIsCounted, ValidSizesAreCounted, AreBodySizes, ValidBodiesAreCounted}
 use Rattle.hf_store.specs.Store.{Prop, Held, RefList, Item, Group, ItemStore}
 use Rattle.hf_store.specs.Table.{same_prop, props_of, with_prop, table_of}
 use Rattle.hf_store.specs.Valid.{IsFour, IsGoodRef, IsGoodItem, IsGoodGroup, meta_len, Valid}
@@ -22,7 +22,7 @@ use Rattle.hf_store.proofs.BoxLengths.{length-box, le-box_len}
 use Rattle.hf_store.proofs.CountsAre.{counts_are, sum-zero, sum-one}
 use Rattle.hf_store.proofs.FieldLengths.{length-reference_body}
 use Rattle.hf_store.proofs.ShortBoxes.{ge-width, infe_body-size, group_body-size, links_size-cons, infes_are_counted, links_are_counted, props_are_counted, groups_are_counted}
-use Rattle.hf_store.proofs.Sizes.{meta-counted, sizes_are_counted}
+use Rattle.hf_store.proofs.Sizes.{meta-counted, bodies_are_counted, sizes_are_counted}
 
 -- ---- all boxes are short where they are few bytes
 
@@ -308,6 +308,11 @@ long_meta_is_counted s lists props home w file_len =
     let wide = is_wide s.items in
     let inner : inner_of s ≡ long_inner s = rw (links_are_counted s wide lists, props_are_counted (table_of s) (all_in_table IsShortProp s props)) refl in
     meta-counted s home w file_len ∙ ap (λ (b : Inner). meta_size_by wide w (length (table_of s)) (counts_of s) b) inner
+
+pub valid_bodies_are_counted : ValidBodiesAreCounted
+valid_bodies_are_counted s valid =
+    let inner = (meta_is_counted s (valid_fours s valid) (inl valid.meta)).0 in
+    subst (λ (b : Inner). AreBodySizes s (is_wide s.items) (length (table_of s)) (counts_of s) b) inner (bodies_are_counted s)
 
 pub valid_sizes_are_counted : ValidSizesAreCounted
 valid_sizes_are_counted s valid =

@@ -18,13 +18,9 @@ use Rattle.hf_store.specs.Valid.{IsFour}
 use Rattle.hf_store.proofs.BoxLengths.{length-box, box_len-short}
 use Rattle.hf_store.proofs.CountsAre.{box_from, counts_are, sum-zero, sum-one}
 use Rattle.hf_store.proofs.FieldLengths.{strings_len, length-infe_body, length-reference_body, length-nums}
-use Rattle.hf_store.proofs.Sizes.{sum-map}
+use Rattle.hf_store.proofs.Sizes.{le-width, sum-map}
 
 -- ---- one box
-
-le-width : (wide : Bool) → id_width wide ≤ 4
-le-width true = omega arith
-le-width false = omega arith
 
 pub ge-width : (wide : Bool) → 2 ≤ id_width wide
 ge-width true = omega arith

@@ -26,7 +26,7 @@ use Rattle.hf_prop.specs.Iprp.{is_long_table, ipco_body, iprp_body}
 use Rattle.hf_store.specs.Counts.{Counts, counts_of}
 use Rattle.hf_store.specs.Layout.{Homes, own, is_wide, info_of, infos_of, all_boxes, has_bytes, has_props, assoc_of, assocs_of, iprp_of, in_idat, bytes_in, idat_body, entries_of, box_if_any, mdat_body, meta_body, laid}
 use Rattle.hf_store.specs.Picks.{pick_of}
-use Rattle.hf_store.specs.Sizes.{infes_size, links_size, props_size, groups_size, Inner, inner_of, short_inner, iinf_size, iref_size, ipma_size, iprp_size, grpl_size, idat_size, iloc_size, meta_size_by, mdat_size, ftyp_size, file_size_by, SizesAreCounted}
+use Rattle.hf_store.specs.Sizes.{infes_size, links_size, props_size, groups_size, Inner, inner_of, short_inner, iinf_size, iref_size, ipma_body_size, ipma_size, iprp_size, grpl_size, idat_size, iloc_body_size, iloc_size, meta_body_size, meta_size_by, mdat_size, ftyp_size, file_size_by, BodiesAreCounted, SizesAreCounted}
 use Rattle.hf_store.specs.Store.{Prop, Item, Group, ItemStore}
 use Rattle.hf_store.specs.Table.{table_of}
 use Rattle.hf_store.specs.Valid.{IsFour}
@@ -123,16 +123,52 @@ length-assocs wide two_bytes table (i ∷ is) =
     assoc_here wide two_bytes table i (filter has_props is) (picks_in is) (has_props i) refl (length-assocs wide two_bytes table is)
     ∙ ap (counted_len wide two_bytes (length (filter has_props (i ∷ is)))) (sym sum)
 
--- ---- the boxes of the file
+-- ---- bodies
+
+pub iinf_body-counted : (wide : Bool) (s : ItemStore) → length (iinf_body wide (infos_of s.items)) ≡ 4 + id_width wide + infes_size wide s.items
+iinf_body-counted wide s = length-iinf_body wide (infos_of s.items) ∙ ap (λ n. 4 + id_width wide + n) (length-infes wide s.items)
+
+picks_sum : (s : ItemStore) → (counts_of s).picks ≡ picks_in s.items
+unfolding counts_of
+picks_sum s = omega (arith, sum-zero s.groups)
+
+abbrev ipma_of : Bool → ItemStore → List ℕ
+ipma_of wide s = ipma_body wide (is_long_table (table_of s)) (assocs_of (table_of s) s.items)
+
+pub ipma_body-counted : (wide : Bool) (s : ItemStore) → length (ipma_of wide s) ≡ ipma_body_size wide (length (table_of s)) (counts_of s)
+ipma_body-counted wide s =
+    let two_bytes = is_long_table (table_of s) in
+    let c = counts_of s in
+    let assocs : length (flat_map (ipma_entry wide two_bytes) (assocs_of (table_of s) s.items)) ≡ counted_len wide two_bytes c.holders c.picks =
+    length-assocs wide two_bytes (table_of s) s.items
+    ∙ ap (λ n. counted_len wide two_bytes n (picks_in s.items)) (sym (counts_are s).holders)
+    ∙ ap (counted_len wide two_bytes c.holders) (sym (picks_sum s))
+    in
+    omega (arith, length-ipma_body wide two_bytes (assocs_of (table_of s) s.items), assocs)
 
 boxed : (kind : FourCc) (body : List ℕ) (n : ℕ) → length kind.0 ≡ 4 → length body ≡ n → length (box kind body) ≡ box_len n
 boxed kind body n four is = length-box kind body four ∙ ap box_len is
 
-pub iinf-counted : (wide : Bool) (s : ItemStore)
-    → length (box (four "iinf") (iinf_body wide (infos_of s.items))) ≡ box_len (4 + id_width wide + infes_size wide s.items)
-iinf-counted wide s =
-    let body = length-iinf_body wide (infos_of s.items) ∙ ap (λ n. 4 + id_width wide + n) (length-infes wide s.items) in
-    boxed (four "iinf") (iinf_body wide (infos_of s.items)) _ refl body
+ipco-counted : (s : ItemStore) → length (box (four "ipco") (ipco_body (table_of s))) ≡ box_len (props_size (table_of s))
+ipco-counted s = boxed (four "ipco") (ipco_body (table_of s)) _ refl (length-props (table_of s))
+
+ipma-counted : (wide : Bool) (s : ItemStore) → length (box (four "ipma") (ipma_of wide s)) ≡ ipma_size wide (length (table_of s)) (counts_of s)
+ipma-counted wide s = boxed (four "ipma") (ipma_of wide s) _ refl (ipma_body-counted wide s)
+
+pub iprp_body-counted : (wide : Bool) (s : ItemStore)
+    → length (iprp_body wide (iprp_of s)) ≡ box_len (props_size (table_of s)) + ipma_size wide (length (table_of s)) (counts_of s)
+unfolding iprp_body
+iprp_body-counted wide s =
+    length-append (box (four "ipco") (ipco_body (table_of s))) (box (four "ipma") (ipma_of wide s))
+    ∙ ap (λ n. n + length (box (four "ipma") (ipma_of wide s))) (ipco-counted s)
+    ∙ ap (λ n. box_len (props_size (table_of s)) + n) (ipma-counted wide s)
+
+pub iloc_body-counted : (wide : Bool) (s : ItemStore) (home : Homes) (w file_len : ℕ)
+    → length (iloc_body wide w (entries_of home file_len s.items)) ≡ iloc_body_size wide w (counts_of s)
+iloc_body-counted wide s home w file_len =
+    length-iloc_body home wide w file_len s.items ∙ ap (λ n. 6 + id_width wide + n * (6 + id_width wide + (w + w))) (sym (counts_are s).located)
+
+-- ---- the same, by counts
 
 pub iref-counted : (wide : Bool) (s : ItemStore)
     → length (box_if_any (four "iref") (iref_body wide) (all_boxes s.items)) ≡ cond ((counts_of s).links == 0) 0 (box_len (4 + links_size wide s.items))
@@ -142,40 +178,6 @@ iref-counted wide s =
     ∙ ap (λ n. cond (n == 0) 0 (box_len (length (iref_body wide boxes)))) (sym (counts_are s).links)
     ∙ ap (λ n. cond ((counts_of s).links == 0) 0 (box_len n)) (length-links wide boxes)
 
-pub ipco-counted : (s : ItemStore) → length (box (four "ipco") (ipco_body (table_of s))) ≡ box_len (props_size (table_of s))
-ipco-counted s = boxed (four "ipco") (ipco_body (table_of s)) _ refl (length-props (table_of s))
-
-picks_sum : (s : ItemStore) → (counts_of s).picks ≡ picks_in s.items
-unfolding counts_of
-picks_sum s = omega (arith, sum-zero s.groups)
-
-abbrev ipma_of : Bool → ItemStore → List ℕ
-ipma_of wide s = ipma_body wide (is_long_table (table_of s)) (assocs_of (table_of s) s.items)
-
-pub ipma-counted : (wide : Bool) (s : ItemStore) → length (box (four "ipma") (ipma_of wide s)) ≡ ipma_size wide (length (table_of s)) (counts_of s)
-ipma-counted wide s =
-    let two_bytes = is_long_table (table_of s) in
-    let c = counts_of s in
-    let assocs : length (flat_map (ipma_entry wide two_bytes) (assocs_of (table_of s) s.items)) ≡ counted_len wide two_bytes c.holders c.picks =
-    length-assocs wide two_bytes (table_of s) s.items
-    ∙ ap (λ n. counted_len wide two_bytes n (picks_in s.items)) (sym (counts_are s).holders)
-    ∙ ap (counted_len wide two_bytes c.holders) (sym (picks_sum s))
-    in
-    let body = length-ipma_body wide two_bytes (assocs_of (table_of s) s.items) in
-    boxed (four "ipma") (ipma_of wide s) _ refl (omega (arith, body, assocs))
-
-iprp_body-counted : (wide : Bool) (s : ItemStore)
-    → length (iprp_body wide (iprp_of s)) ≡ box_len (props_size (table_of s)) + ipma_size wide (length (table_of s)) (counts_of s)
-unfolding iprp_body
-iprp_body-counted wide s =
-    length-append (box (four "ipco") (ipco_body (table_of s))) (box (four "ipma") (ipma_of wide s))
-    ∙ ap (λ n. n + length (box (four "ipma") (ipma_of wide s))) (ipco-counted s)
-    ∙ ap (λ n. box_len (props_size (table_of s)) + n) (ipma-counted wide s)
-
-pub iprp-counted : (wide : Bool) (s : ItemStore)
-    → length (box (four "iprp") (iprp_body wide (iprp_of s))) ≡ box_len (box_len (props_size (table_of s)) + ipma_size wide (length (table_of s)) (counts_of s))
-iprp-counted wide s = boxed (four "iprp") (iprp_body wide (iprp_of s)) _ refl (iprp_body-counted wide s)
-
 pub grpl-counted : (s : ItemStore) → length (box_if_any (four "grpl") grpl_body s.groups) ≡ cond ((counts_of s).groups == 0) 0 (box_len (groups_size s.groups))
 grpl-counted s =
     length-box_if_any (four "grpl") grpl_body s.groups refl ∙ ap (λ n. cond (n == 0) 0 (box_len (length (grpl_body s.groups)))) (sym (counts_are s).groups)
@@ -184,35 +186,54 @@ grpl-counted s =
 pub idat-counted : (s : ItemStore) → length (box_if_any (four "idat") bytes_in (filter in_idat s.items)) ≡ idat_size (counts_of s)
 idat-counted s = length-idat s.items ∙ ap (λ n. cond (n == 0) 0 (box_len n)) (sym (counts_are s).idat)
 
-pub iloc-counted : (wide : Bool) (s : ItemStore) (home : Homes) (w file_len : ℕ)
-    → length (box (four "iloc") (iloc_body wide w (entries_of home file_len s.items))) ≡ iloc_size wide w (counts_of s)
-iloc-counted wide s home w file_len =
-    let located = ap (λ n. 6 + id_width wide + n * (6 + id_width wide + (w + w))) (sym (counts_are s).located) in
-    boxed (four "iloc") (iloc_body wide w (entries_of home file_len s.items)) _ refl (length-iloc_body home wide w file_len s.items ∙ located)
-
-pub mdat-counted : (s : ItemStore) → length (box (four "mdat") (mdat_body own s.items)) ≡ mdat_size (counts_of s)
-mdat-counted s = boxed (four "mdat") (mdat_body own s.items) _ refl (sym (counts_are s).mdat)
-
-pub ftyp-counted : (s : ItemStore) → IsFour s.brands.major → length (box (four "ftyp") (ftyp_body s.brands)) ≡ ftyp_size s.brands
-ftyp-counted s major = boxed (four "ftyp") (ftyp_body s.brands) _ refl (length-ftyp_body s.brands major)
+-- ---- meta
 
 pitm-size : (wide : Bool) (id : ℕ) → box_len (length (pitm_body wide id)) ≡ 12 + id_width wide
 pitm-size true id = ap box_len (length-pitm_body true id) ∙ box_len-short 8 (omega arith)
 pitm-size false id = ap box_len (length-pitm_body false id) ∙ box_len-short 6 (omega arith)
 
-pub meta-counted : (s : ItemStore) (home : Homes) (w file_len : ℕ)
-    → length (box (four "meta") (meta_body home w file_len s)) ≡ meta_size_by (is_wide s.items) w (length (table_of s)) (counts_of s) (inner_of s)
+pub meta_body-counted : (s : ItemStore) (home : Homes) (w file_len : ℕ)
+    → length (meta_body home w file_len s) ≡ meta_body_size (is_wide s.items) w (length (table_of s)) (counts_of s) (inner_of s)
 unfolding inner_of meta_body_len
-meta-counted s home w file_len =
+meta_body-counted s home w file_len =
     let wide = is_wide s.items in
     let hdlr : box_len (length hdlr_body) ≡ 33 = ap box_len length-hdlr_body ∙ box_len-short 25 (omega arith) in
-    let iinf = sym (length-box (four "iinf") (iinf_body wide (infos_of s.items)) refl) ∙ iinf-counted wide s in
-    let iprp = sym (length-box (four "iprp") (iprp_body wide (iprp_of s)) refl) ∙ iprp-counted wide s in
+    let iinf = ap box_len (iinf_body-counted wide s) in
+    let iprp = ap box_len (iprp_body-counted wide s) in
     let iloc = ap (λ n. box_len (6 + id_width wide + n * (6 + id_width wide + (w + w)))) (sym (counts_are s).located) in
     let front = length-meta_front s in
     let body = length-meta_body home w file_len s in
-    boxed (four "meta") (meta_body home w file_len s) _ refl
-    (omega (arith, body, front, hdlr, pitm-size wide s.primary, iinf, iref-counted wide s, iprp, grpl-counted s, idat-counted s, iloc))
+    omega (arith, body, front, hdlr, pitm-size wide s.primary, iinf, iref-counted wide s, iprp, grpl-counted s, idat-counted s, iloc)
+
+-- ---- the whole
+
+pub bodies_are_counted : BodiesAreCounted
+unfolding inner_of
+bodies_are_counted s =
+    let wide = is_wide s.items in
+    record {
+      iinf = iinf_body-counted wide s;
+      iref = length-links wide (all_boxes s.items);
+      ipco = length-props (table_of s);
+      ipma = ipma_body-counted wide s;
+      iprp = iprp_body-counted wide s;
+      grpl = length-groups s.groups;
+      idat = sym (counts_are s).idat;
+      iloc = iloc_body-counted wide s;
+      meta = meta_body-counted s;
+      mdat = sym (counts_are s).mdat;
+      ftyp = length-ftyp_body s.brands;
+    }
+
+pub meta-counted : (s : ItemStore) (home : Homes) (w file_len : ℕ)
+    → length (box (four "meta") (meta_body home w file_len s)) ≡ meta_size_by (is_wide s.items) w (length (table_of s)) (counts_of s) (inner_of s)
+meta-counted s home w file_len = boxed (four "meta") (meta_body home w file_len s) _ refl (meta_body-counted s home w file_len)
+
+mdat-counted : (s : ItemStore) → length (box (four "mdat") (mdat_body own s.items)) ≡ mdat_size (counts_of s)
+mdat-counted s = boxed (four "mdat") (mdat_body own s.items) _ refl (sym (counts_are s).mdat)
+
+ftyp-counted : (s : ItemStore) → IsFour s.brands.major → length (box (four "ftyp") (ftyp_body s.brands)) ≡ ftyp_size s.brands
+ftyp-counted s major = boxed (four "ftyp") (ftyp_body s.brands) _ refl (length-ftyp_body s.brands major)
 
 pub file-counted : (s : ItemStore) (w file_len : ℕ) → IsFour s.brands.major
     → length (laid own w file_len s) ≡ file_size_by (is_wide s.items) w (length (table_of s)) s.brands (counts_of s) (inner_of s)
@@ -223,15 +244,16 @@ pub sizes_are_counted : SizesAreCounted
 unfolding inner_of
 sizes_are_counted s =
     let wide = is_wide s.items in
+    let bodies = bodies_are_counted s in
     record {
-      iinf = iinf-counted wide s;
+      iinf = boxed (four "iinf") (iinf_body wide (infos_of s.items)) _ refl bodies.iinf;
       iref = iref-counted wide s;
       ipco = ipco-counted s;
       ipma = ipma-counted wide s;
-      iprp = iprp-counted wide s;
+      iprp = boxed (four "iprp") (iprp_body wide (iprp_of s)) _ refl bodies.iprp;
       grpl = grpl-counted s;
       idat = idat-counted s;
-      iloc = iloc-counted wide s;
+      iloc = λ home w file_len. boxed (four "iloc") (iloc_body wide w (entries_of home file_len s.items)) _ refl (bodies.iloc home w file_len);
       meta = meta-counted s;
       mdat = mdat-counted s;
       ftyp = ftyp-counted s;
@@ -240,7 +262,7 @@ sizes_are_counted s =
 
 -- ---- bounds
 
-le-width : (wide : Bool) → id_width wide ≤ 4
+pub le-width : (wide : Bool) → id_width wide ≤ 4
 le-width true = omega arith
 le-width false = omega arith
 

@@ -15,7 +15,7 @@ use Rattle.hf_loc.specs.Iloc.{iloc_body}
 use Rattle.hf_prop.specs.Ipma.{ipma_body}
 use Rattle.hf_prop.specs.Iprp.{is_long_table, ipco_body, iprp_body}
 use Rattle.hf_store.specs.Counts.{Counts, strings_of, counts_of}
-use Rattle.hf_store.specs.Layout.{Homes, own, is_wide, info_of, infos_of, all_boxes, assocs_of, iprp_of, in_idat, bytes_in, entries_of, box_if_any, mdat_body, meta_body, laid}
+use Rattle.hf_store.specs.Layout.{Homes, own, is_wide, info_of, infos_of, all_boxes, assocs_of, iprp_of, in_idat, bytes_in, idat_body, entries_of, box_if_any, mdat_body, meta_body, laid}
 use Rattle.hf_store.specs.Store.{Prop, Held, RefList, Item, Group, ItemStore}
 use Rattle.hf_store.specs.Table.{table_of}
 use Rattle.hf_store.specs.Valid.{IsFour, meta_len, Valid}
@@ -84,22 +84,34 @@ short_inner wide props c = record {
 -- ---- the boxes of the file
 
 -- `wide`: ids take four bytes; n: distinct properties; w: bytes of offsets and lengths
+abbrev pub iinf_body_size : Bool → Inner → ℕ
+iinf_body_size wide inner = 4 + id_width wide + inner.infes
+
 abbrev pub iinf_size : Bool → Inner → ℕ
-iinf_size wide inner = box_len (4 + id_width wide + inner.infes)
+iinf_size wide inner = box_len (iinf_body_size wide inner)
+
+abbrev pub iref_body_size : Inner → ℕ
+iref_body_size inner = 4 + inner.links
 
 -- absent without references
 abbrev pub iref_size : Counts → Inner → ℕ
-iref_size c inner = if c.links == 0 then 0 else box_len (4 + inner.links)
+iref_size c inner = if c.links == 0 then 0 else box_len (iref_body_size inner)
 
 abbrev pub ipco_size : Inner → ℕ
 ipco_size inner = box_len inner.props
 
 -- associations take two bytes where more than 127 properties are distinct
+abbrev pub ipma_body_size : Bool → ℕ → Counts → ℕ
+ipma_body_size wide n c = 8 + c.holders * (1 + id_width wide) + c.picks * (1 + bit (nat_lt 127 n))
+
 abbrev pub ipma_size : Bool → ℕ → Counts → ℕ
-ipma_size wide n c = box_len (8 + c.holders * (1 + id_width wide) + c.picks * (1 + bit (nat_lt 127 n)))
+ipma_size wide n c = box_len (ipma_body_size wide n c)
+
+abbrev pub iprp_body_size : Bool → ℕ → Counts → Inner → ℕ
+iprp_body_size wide n c inner = ipco_size inner + ipma_size wide n c
 
 abbrev pub iprp_size : Bool → ℕ → Counts → Inner → ℕ
-iprp_size wide n c inner = box_len (ipco_size inner + ipma_size wide n c)
+iprp_size wide n c inner = box_len (iprp_body_size wide n c inner)
 
 -- absent without groups
 abbrev pub grpl_size : Counts → Inner → ℕ
@@ -109,8 +121,11 @@ grpl_size c inner = if c.groups == 0 then 0 else box_len inner.groups
 abbrev pub idat_size : Counts → ℕ
 idat_size c = if c.idat == 0 then 0 else box_len c.idat
 
+abbrev pub iloc_body_size : Bool → ℕ → Counts → ℕ
+iloc_body_size wide w c = 6 + id_width wide + c.located * (6 + id_width wide + (w + w))
+
 abbrev pub iloc_size : Bool → ℕ → Counts → ℕ
-iloc_size wide w c = box_len (6 + id_width wide + c.located * (6 + id_width wide + (w + w)))
+iloc_size wide w c = box_len (iloc_body_size wide w c)
 
 -- version and flags, `hdlr`, `pitm`, and the others
 abbrev pub meta_body_size : Bool → ℕ → ℕ → Counts → Inner → ℕ
@@ -153,9 +168,26 @@ pub record AreSizes (s : ItemStore) (wide : Bool) (n : ℕ) (c : Counts) (b : In
   pub ftyp : IsFour s.brands.major → length (box (four "ftyp") (ftyp_body s.brands)) ≡ ftyp_size s.brands
   pub file : (w file_len : ℕ) → IsFour s.brands.major → length (laid own w file_len s) ≡ file_size_by wide w n s.brands c b
 
+-- and these those of their bodies
+pub record AreBodySizes (s : ItemStore) (wide : Bool) (n : ℕ) (c : Counts) (b : Inner) : Type 0 where
+  pub iinf : length (iinf_body wide (infos_of s.items)) ≡ iinf_body_size wide b
+  pub iref : length (iref_body wide (all_boxes s.items)) ≡ iref_body_size b
+  pub ipco : length (ipco_body (table_of s)) ≡ b.props
+  pub ipma : length (ipma_body wide (is_long_table (table_of s)) (assocs_of (table_of s) s.items)) ≡ ipma_body_size wide n c
+  pub iprp : length (iprp_body wide (iprp_of s)) ≡ iprp_body_size wide n c b
+  pub grpl : length (grpl_body s.groups) ≡ b.groups
+  pub idat : length (idat_body s.items) ≡ c.idat
+  pub iloc : (home : Homes) (w file_len : ℕ) → length (iloc_body wide w (entries_of home file_len s.items)) ≡ iloc_body_size wide w c
+  pub meta : (home : Homes) (w file_len : ℕ) → length (meta_body home w file_len s) ≡ meta_body_size wide w n c b
+  pub mdat : length (mdat_body own s.items) ≡ c.mdat
+  pub ftyp : IsFour s.brands.major → length (ftyp_body s.brands) ≡ 8 + length s.brands.compatible
+
 -- of any store, valid or not, whatever the headers of the boxes inside others
 abbrev pub SizesAreCounted : Type 0
 SizesAreCounted = (s : ItemStore) → AreSizes s (is_wide s.items) (length (table_of s)) (counts_of s) (inner_of s)
+
+abbrev pub BodiesAreCounted : Type 0
+BodiesAreCounted = (s : ItemStore) → AreBodySizes s (is_wide s.items) (length (table_of s)) (counts_of s) (inner_of s)
 
 -- ---- what holds of all
 
@@ -248,6 +280,9 @@ LongMetaIsCounted =
 -- boxes
 abbrev pub ValidSizesAreCounted : Type 0
 ValidSizesAreCounted = (s : ItemStore) → Valid s → AreSizes s (is_wide s.items) (length (table_of s)) (counts_of s) (counted_inner s)
+
+abbrev pub ValidBodiesAreCounted : Type 0
+ValidBodiesAreCounted = (s : ItemStore) → Valid s → AreBodySizes s (is_wide s.items) (length (table_of s)) (counts_of s) (counted_inner s)
 
 -- each count of a valid store is within the limits of bytes
 pub record AreFew (c : Counts) : Type 0 where

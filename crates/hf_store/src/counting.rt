@@ -1,7 +1,7 @@
 //! What is counted over a store. Each is the contract of a function that does nothing.
 
 ghost use Rattle.hf_store.specs.Offsets.{OffsetsAreCounted, NoneBeforeTheFirst, OneMoreBeforeTheNext, AllBeforeTheEnd, RestIsBehind};
-ghost use Rattle.hf_store.specs.Sizes.{SizesAreCounted, InfesAreCounted, LinksAreCounted, PropsAreCounted, GroupsAreCounted, MetaIsCounted, LongMetaIsCounted, ValidSizesAreCounted, CountsAreFew};
+ghost use Rattle.hf_store.specs.Sizes.{SizesAreCounted, BodiesAreCounted, InfesAreCounted, LinksAreCounted, PropsAreCounted, GroupsAreCounted, MetaIsCounted, LongMetaIsCounted, ValidSizesAreCounted, ValidBodiesAreCounted, CountsAreFew};
 ghost use Rattle.hf_store.specs.Counts.{CountsAreOfTheLayout, ItemGoes, ItemComes, ItemChanges, GroupGoes, GroupComes, GroupChanges};
 
 /// An item or a group that goes takes its counts with it, one that comes brings its own, and one
@@ -20,10 +20,11 @@ pub fn counts_are_of_the_layout()
     ensures { CountsAreOfTheLayout }
 {}
 
-/// The lengths of boxes follow from the counts, the number of distinct properties, and the bytes
+/// The lengths of boxes and of their bodies follow from the counts, the number of distinct properties, and the bytes
 /// of the boxes inside others.
 pub fn sizes_are_counted()
-    ensures { SizesAreCounted }
+    ensures boxes { SizesAreCounted }
+    ensures bodies { BodiesAreCounted }
 {}
 
 /// The bytes of the boxes inside others follow from the counts where their headers take eight
@@ -42,10 +43,11 @@ pub fn meta_is_counted()
     ensures long { LongMetaIsCounted }
 {}
 
-/// The lengths of the boxes of a valid store follow from the counts, the number of distinct
+/// The lengths of the boxes of a valid store, and of their bodies, follow from the counts, the number of distinct
 /// properties, and the bytes of their boxes.
 pub fn valid_sizes_are_counted()
-    ensures { ValidSizesAreCounted }
+    ensures boxes { ValidSizesAreCounted }
+    ensures bodies { ValidBodiesAreCounted }
 {}
 
 /// The offset that is written for each item follows from the counts of the items before it, which
