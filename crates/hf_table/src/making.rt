@@ -1,11 +1,10 @@
 //! The table is made, in one pass over the properties of all items.
 
-ghost use Rattle.std.specs.Prelude.{◌≡◌, ◌≤◌, ◌<◌, ◌++◌, ◌+◌, [], ◌∷◌, List, length, fold, slice_get, Some, IfOk, OnOk};
+ghost use Rattle.std.specs.Prelude.{◌≡◌, ◌≤◌, ◌+◌, length, fold, IfOk, OnOk};
 ghost use Rattle.hf_base.specs.declared.limits.TheConstants.{KINDS};
-ghost use Rattle.hf_prop.specs.declared.prop.Prop.{Prop as StatedProp};
 ghost use Rattle.hf_table.specs.Held.{props_in, all_props};
-ghost use Rattle.hf_table.specs.Making.{IsMade};
-ghost use Rattle.hf_table.specs.Numbered.{IsTableOf, Stands, place_of};
+ghost use Rattle.hf_table.specs.Making.{Notes, NotesAll};
+ghost use Rattle.hf_table.specs.Numbered.{IsTableOf};
 ghost use Rattle.hf_table.specs.Table.{table, with_prop};
 
 use crate::PropLists;
@@ -31,7 +30,7 @@ impl<'a> Making<'a> {
     fn note(&mut self, prop: Prop<'a>, i: usize, j: usize) -> Result<(), NoMemory>
         requires { length self.old.seen.keys ≤ KINDS }
         ensures seen { OnOk result (self.new.seen.keys ≡ with_prop self.old.seen.keys prop.entry) }
-        ensures made { OnOk result ((lists : List (List StatedProp)) (ps : List StatedProp) → IsMade lists ps self.old → place_of lists i j ≡ length ps → Stands lists i j prop.entry → IsMade lists (ps ++ prop.entry ∷ []) self.new) }
+        ensures made { OnOk result (Notes self.old i j prop.entry self.new) }
     {
         let (index, is_new) = self.seen.insert_full(prop)?;
         if is_new {
@@ -44,7 +43,7 @@ impl<'a> Making<'a> {
     /// The properties of one more item, the i-th one.
     fn note_all(&mut self, props: &[Held<'a>], i: usize) -> Result<(), NoMemory>
         requires { length (fold with_prop self.old.seen.keys (props_in props.now)) ≤ KINDS }
-        ensures { OnOk result ((lists : List (List StatedProp)) (ps : List StatedProp) → IsMade lists ps self.old → place_of lists i 0 ≡ length ps → slice_get lists i ≡ Some (props_in props.now) → IsMade lists (ps ++ props_in props.now) self.new) }
+        ensures { OnOk result (NotesAll self.old i (props_in props.now) self.new) }
     {
         for j in 0..props.len() {
             self.note(props[j].prop.copy(), i, j)?;
