@@ -56,14 +56,16 @@ no_later_entry inner long zero id less = refl
 no_later_entry inner long (suc n) id less =
     let is = entry_id inner long n in
     let other : ((doubled_entry inner long n).id == id) ≡ false = grind (arith, nat_tests) in
-    entry_back id (doubled_entries inner long n) (doubled_entry inner long n ∷ []) (no_later_entry inner long n id (omega arith)) ∙ only_other id (doubled_entry inner long n) other
+    entry_back id (doubled_entries inner long n) (doubled_entry inner long n ∷ []) (no_later_entry inner long n id (omega arith))
+    ∙ only_other id (doubled_entry inner long n) other
 
 last_entry : (inner : Bool) (long : ℕ → ℕ) (n : ℕ) → loc_of (suc n) (doubled_entries inner long (suc n)) ≡ Some (doubled_entry inner long n)
 unfolding doubled_entries
 last_entry inner long n =
     let is = entry_id inner long n in
     let same : ((doubled_entry inner long n).id == suc n) ≡ true = grind (arith, nat_tests) in
-    entry_back (suc n) (doubled_entries inner long n) (doubled_entry inner long n ∷ []) (no_later_entry inner long n (suc n) (omega arith)) ∙ only_same (suc n) (doubled_entry inner long n) same
+    entry_back (suc n) (doubled_entries inner long n) (doubled_entry inner long n ∷ []) (no_later_entry inner long n (suc n) (omega arith))
+    ∙ only_same (suc n) (doubled_entry inner long n) same
 
 entry_at : (inner : Bool) (long : ℕ → ℕ) (n k : ℕ) → k < n → loc_of (suc k) (doubled_entries inner long n) ≡ Some (doubled_entry inner long k)
 unfolding doubled_entries
@@ -130,7 +132,8 @@ source_at (suc n) k less = elim (cases_lt k n) [
 
 -- ---- items
 
-item_is : (inner : Bool) (long : ℕ → ℕ) (n k : ℕ) → k < suc n → located_item (doubled_entries inner long (suc n)) (doubled_links n) (suc k) ≡ doubled_item inner long k
+item_is : (inner : Bool) (long : ℕ → ℕ) (n k : ℕ) → k < suc n
+    → located_item (doubled_entries inner long (suc n)) (doubled_links n) (suc k) ≡ doubled_item inner long k
 item_is inner long n zero less =
     ap (λ (o : Option Loc). located_at 1 o (sources_of 1 (doubled_links n))) (entry_at inner long (suc n) zero less)
     ∙ ap (λ (l : List ℕ). located_at 1 (Some (doubled_entry inner long zero)) l) (no_first_source n)
@@ -138,7 +141,8 @@ item_is inner long n (suc k) less =
     ap (λ (o : Option Loc). located_at (suc (suc k)) o (sources_of (suc (suc k)) (doubled_links n))) (entry_at inner long (suc n) (suc k) less)
     ∙ ap (λ (l : List ℕ). located_at (suc (suc k)) (Some (doubled_entry inner long (suc k))) l) (source_at n k (omega arith))
 
-items_are : (f : ℕ → Located) (inner : Bool) (long : ℕ → ℕ) (n : ℕ) → ((k : ℕ) → k < n → f (suc k) ≡ doubled_item inner long k) → map f (first_ids n) ≡ doubled inner long n
+items_are : (f : ℕ → Located) (inner : Bool) (long : ℕ → ℕ) (n : ℕ) → ((k : ℕ) → k < n → f (suc k) ≡ doubled_item inner long k)
+    → map f (first_ids n) ≡ doubled inner long n
 unfolding first_ids doubled
 items_are f inner long zero each = refl
 items_are f inner long (suc n) each =
@@ -146,5 +150,6 @@ items_are f inner long (suc n) each =
     ∙ ap (λ (l : List Located). l ++ f (suc n) ∷ []) (items_are f inner long n (λ k less. each k (omega arith)))
     ∙ ap (λ (r : Located). doubled inner long n ++ r ∷ []) (each n (omega arith))
 
-pub chain_in_file : (inner : Bool) (long : ℕ → ℕ) (n : ℕ) → located_items (first_ids (suc n)) (doubled_entries inner long (suc n)) (doubled_links n) ≡ doubled inner long (suc n)
+pub chain_in_file : (inner : Bool) (long : ℕ → ℕ) (n : ℕ)
+    → located_items (first_ids (suc n)) (doubled_entries inner long (suc n)) (doubled_links n) ≡ doubled inner long (suc n)
 chain_in_file inner long n = items_are (located_item (doubled_entries inner long (suc n)) (doubled_links n)) inner long (suc n) (item_is inner long n)
