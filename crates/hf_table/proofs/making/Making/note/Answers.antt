@@ -31,7 +31,8 @@ returns-clause-made c lists ps m here at =
       | else-is_new w ↦
           let there : list_any (same_prop p) old.seen.keys ≡ true = not-false _ (sym e.added ∙ w.if-is_new.false) in
           let firsts : AllZip (IsFirst lists (ps ++ p ∷ [])) old.firsts.items c.insert_full.new.self.keys =
-          subst (λ ks. AllZip (IsFirst lists (ps ++ p ∷ [])) old.firsts.items ks) (sym keys) (firsts-kept lists ps p old.seen.keys m.seen old.firsts.items m.firsts there) in
+          subst (λ ks. AllZip (IsFirst lists (ps ++ p ∷ [])) old.firsts.items ks) (sym keys)
+          (firsts-kept lists ps p old.seen.keys m.seen old.firsts.items m.firsts there) in
           let P : Making → Type 0 = λ x. IsMade lists (ps ++ p ∷ []) (record { seen = x.seen; firsts = x.firsts; numbers = c.push-2.new.self }) in
           subst P (sym w.self-is) (record { seen = seen; firsts = firsts; numbers = numbers (ap (λ (x : Making). x.numbers.items) w.self-is) })
     ]

@@ -9,4 +9,5 @@ take-requires c =
 
 pub loop-held-preserved : goal.loop-held-preserved
 loop-held-preserved c =
-    taken-more props_in props-join c.args.props.now c.loop-held.held-index c.held-item.result c.loop-held-test.true c.held-item.is c.args.self.now c.loop-held.self c.take.new.self c.loop-held.invariant c.take.ensures
+    taken-more props_in props-join c.args.props.now c.loop-held.held-index c.held-item.result c.loop-held-test.true c.held-item.is c.args.self.now
+    c.loop-held.self c.take.new.self c.loop-held.invariant c.take.ensures
