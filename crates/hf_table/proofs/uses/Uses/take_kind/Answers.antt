@@ -23,7 +23,9 @@ loop-held-preserved c =
     c.loop-held.self us c.loop-held.invariant next in
     elim c.if-is_of_kind.branch [
       | then-is_of_kind w ↦ more c.if-is_of_kind.self
-          (subst (λ us. Gains us (of_kind kind (h ∷ [])) c.loop-held.self) (sym w.self-is) (subst (λ ps. Gains w.take.new.self ps c.loop-held.self) (sym (kind-one kind h (sym w.if-is_of_kind.ensures))) w.take.ensures))
+          (subst (λ us. Gains us (of_kind kind (h ∷ [])) c.loop-held.self) (sym w.self-is)
+          (subst (λ ps. Gains w.take.new.self ps c.loop-held.self) (sym (kind-one kind h (sym w.if-is_of_kind.ensures))) w.take.ensures))
       | else-is_of_kind w ↦ more c.if-is_of_kind.self
-          (subst (λ us. Gains us (of_kind kind (h ∷ [])) c.loop-held.self) (sym w.self-is) (subst (λ ps. Gains c.loop-held.self ps c.loop-held.self) (sym (kind-none kind h (sym w.if-is_of_kind.ensures))) (gains-none c.loop-held.self)))
+          (subst (λ us. Gains us (of_kind kind (h ∷ [])) c.loop-held.self) (sym w.self-is)
+          (subst (λ ps. Gains c.loop-held.self ps c.loop-held.self) (sym (kind-none kind h (sym w.if-is_of_kind.ensures))) (gains-none c.loop-held.self)))
     ]
