@@ -22,13 +22,16 @@ use Rattle.hf_head.proofs.HdlrLemmas as hdlr_laws
 use Rattle.hf_head.proofs.PitmLemmas as pitm_laws
 use Rattle.hf_store.specs.Lists.{IsIn}
 use Rattle.hf_store.specs.Store.{Held, RefList, Item, ItemStore, ids_of}
-use Rattle.hf_store.specs.Layout.{own, is_wide, with_bytes, is_data_item, bytes_in, mdat_body, box_if_any, iinf_body, iprp_body, iloc_body, meta_front, meta_body, laid}
+use Rattle.hf_info.specs.Iinf.{iinf_body}
+use Rattle.hf_loc.specs.Iloc.{iloc_body}
+use Rattle.hf_prop.specs.Iprp.{iprp_body}
+use Rattle.hf_store.specs.Layout.{own, is_wide, with_bytes, is_data_item, bytes_in, mdat_body, infos_of, iprp_of, entries_of, box_if_any, meta_front, meta_body, laid}
 use Rattle.hf_store.specs.Plain.{IsPlainItem, ArePlain, IsPlain}
 use Rattle.hf_store.specs.Valid.{body_sum, IsGoodItem, Valid}
 use Rattle.hf_store.proofs.BoxLengths.{le-box, box_len-le, box_len-mono}
 use Rattle.hf_store.proofs.FieldLengths.{length-ftyp_body}
 use Rattle.hf_store.proofs.Lengths.{meta_body_len, meta_len-is}
-use Rattle.hf_store.proofs.PlainLengths.{no_references, no_idat, iprp_body-plain}
+use Rattle.hf_store.proofs.PlainLengths.{no_references, none_in_idat, iprp_body-plain}
 use Rattle.hf_store.specs.WorkedStores.{one_picture}
 use Rattle.hf_store.specs.WorkedFiles.{file_of_one_picture}
 use Rattle.hf_store.proofs.ValidStores.{valid_one_picture}
@@ -136,14 +139,14 @@ are_inner at hdlr pitm iinf iprp iloc few =
 
 -- what stands in the `meta` of a plain store
 abbrev inner_of : ℕ → ItemStore → List ℕ
-inner_of end s = inner hdlr_body (pitm_body false s.primary) (iinf_body false s.items) (iprp_body false s) (iloc_body own false 4 end s.items)
+inner_of end s = inner hdlr_body (pitm_body false s.primary) (iinf_body false (infos_of s.items)) (iprp_body false (iprp_of s)) (iloc_body false 4 (entries_of own end s.items))
 
 meta_is : (end : ℕ) (s : ItemStore) → IsPlain s → is_wide s.items ≡ false → meta_body own 4 end s ≡ full 0 0 ++ inner_of end s
 unfolding meta_body meta_front box_if_any
 meta_is end s plain narrow =
-    rw (narrow, no_references false s.items plain.items, plain.groups, no_idat s.items plain.items) (simp (append_assoc, append-nil))
+    rw (narrow, no_references s.items plain.items, plain.groups, none_in_idat s.items plain.items) (simp (append_assoc, append-nil))
 
-empty_iprp : (s : ItemStore) → IsPlain s → iprp_body false s ≡ empty_iprp_body
+empty_iprp : (s : ItemStore) → IsPlain s → iprp_body false (iprp_of s) ≡ empty_iprp_body
 unfolding num box box_head empty_iprp_body
 empty_iprp s plain = iprp_body-plain false s plain.items
 
@@ -199,9 +202,9 @@ lay_denotes s F valid plain lay =
     let meta = meta_body own 4 n s in
     let hdlr = hdlr_body in
     let pitm = pitm_body false s.primary in
-    let iinf = iinf_body false s.items in
-    let iprp = iprp_body false s in
-    let iloc = iloc_body own false 4 n s.items in
+    let iinf = iinf_body false (infos_of s.items) in
+    let iprp = iprp_body false (iprp_of s) in
+    let iloc = iloc_body false 4 (entries_of own n s.items) in
     let a = box (four "ftyp") (ftyp_body s.brands) in
     let b = box (four "meta") meta in
     let c = box (four "mdat") (mdat_body own s.items) in

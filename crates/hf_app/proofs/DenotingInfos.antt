@@ -12,7 +12,9 @@ use Rattle.hf_box.proofs.HeadLemmas.{box-compact}
 use Rattle.hf_box.proofs.SameKinds.{other_kind}
 use Rattle.hf_store.specs.Lists.{RisesFrom}
 use Rattle.hf_store.specs.Store.{Item, ids_of}
-use Rattle.hf_store.specs.Layout.{infe_body, infe_box, iinf_body}
+use Rattle.hf_info.specs.Infe.{infe_body, infe_box}
+use Rattle.hf_info.specs.Iinf.{iinf_body}
+use Rattle.hf_store.specs.Layout.{info_of, infos_of}
 use Rattle.hf_store.specs.Plain.{IsPlainItem, ArePlain}
 use Rattle.hf_store.specs.Valid.{IsGoodItem}
 use Rattle.hf_store.proofs.PlainLengths.{infe-plain}
@@ -50,18 +52,18 @@ plain_kind i plain =
     let e : is_kind i.kind IDEN ≡ false = other_kind i.kind IDEN plain.identity in
     rw (a, b, c, d, e) refl
 
-infe_body-is : (i : Item) → IsPlainItem i → infe_body false i ≡ full 2 0 ++ (num i.id 2 ++ (num 0 2 ++ (i.kind.0 ++ num 0 1)))
+infe_body-is : (i : Item) → IsPlainItem i → infe_body false (info_of i) ≡ full 2 0 ++ (num i.id 2 ++ (num 0 2 ++ (i.kind.0 ++ num 0 1)))
 unfolding infe_body
 infe_body-is i plain =
     let mime : is_kind i.kind (four "mime") ≡ false = other_kind i.kind (four "mime") plain.mime in
     let uri : is_kind i.kind (four "uri ") ≡ false = other_kind i.kind (four "uri ") plain.uri in
     rw (plain.shown, plain.name, mime, uri) (simp (append_assoc, append-nil))
 
-infe_is : (all : List Item) (i : Item) → IsPlainItem i → IsGoodItem all i → 0 < i.id → IsInfe (infe_box false i) (info_of_item i)
+infe_is : (all : List Item) (i : Item) → IsPlainItem i → IsGoodItem all i → 0 < i.id → IsInfe (infe_box false (info_of i)) (info_of_item i)
 infe_is all i plain good some =
-    let len : length (infe_body false i) ≡ 13 = infe-plain false i plain good.kind in
-    let text : infe_box false i ≡ num 21 4 ++ INFE.0 ++ infe_body false i =
-    box-compact (four "infe") (infe_body false i) (omega (arith, len)) ∙ ap (λ (n : ℕ). num (8 + n) 4 ++ INFE.0 ++ infe_body false i) len
+    let len : length (infe_body false (info_of i)) ≡ 13 = infe-plain false i plain good.kind in
+    let text : infe_box false (info_of i) ≡ num 21 4 ++ INFE.0 ++ infe_body false (info_of i) =
+    box-compact (four "infe") (infe_body false (info_of i)) (omega (arith, len)) ∙ ap (λ (n : ℕ). num (8 + n) 4 ++ INFE.0 ++ infe_body false (info_of i)) len
     in
     let rest = num i.id 2 ++ (num 0 2 ++ (i.kind.0 ++ num 0 1)) in (
       0,
@@ -71,15 +73,15 @@ infe_is all i plain good some =
       plain.id,
       good.kind,
       plain_kind i plain,
-      text ∙ append_assoc (num 21 4) INFE.0 (infe_body false i) ∙ ap (λ (l : List ℕ). num 21 4 ++ (INFE.0 ++ l)) (infe_body-is i plain),
+      text ∙ append_assoc (num 21 4) INFE.0 (infe_body false (info_of i)) ∙ ap (λ (l : List ℕ). num 21 4 ++ (INFE.0 ++ l)) (infe_body-is i plain),
     )
 
 infes_are : (all is : List Item) (low : ℕ) → ArePlain is → AllByRecursion (IsGoodItem all) is → RisesFrom ◌<◌ low (ids_of is)
-    → AreTexts IsInfe (flat_map (infe_box false) is) (map info_of_item is)
+    → AreTexts IsInfe (flat_map (infe_box false) (infos_of is)) (map info_of_item is)
 infes_are all [] low plain good rises = refl
 infes_are all (i ∷ is) low plain good rises = (
-  infe_box false i,
-  flat_map (infe_box false) is,
+  infe_box false (info_of i),
+  flat_map (infe_box false) (infos_of is),
   refl,
   infe_is all i plain.0 good.0 (omega (arith, rises.0)),
   infes_are all is i.id plain.1 good.1 rises.1,
@@ -92,17 +94,17 @@ ids_of_infos [] = refl
 ids_of_infos (i ∷ is) = ap (λ (l : List ℕ). i.id ∷ l) (ids_of_infos is)
 
 pub iinf_is : (is : List Item) → ArePlain is → AllByRecursion (IsGoodItem is) is → RisesFrom ◌<◌ 0 (ids_of is) → length is < 256 ^ 2
-    → IsIinf (iinf_body false is) (map info_of_item is)
+    → IsIinf (iinf_body false (infos_of is)) (map info_of_item is)
 unfolding iinf_body
 iinf_is is plain good rises few =
-    let entries = flat_map (infe_box false) is in
+    let entries = flat_map (infe_box false) (infos_of is) in
     let count : length (map info_of_item is) ≡ length is = length-map is info_of_item in
     record {
       flags = 0;
       flags_fit = omega arith;
       count = omega (arith, count, few);
       entries = entries;
-      is = append_assoc (full 0 0) (num (length is) 2) entries ∙ ap (λ (n : ℕ). full 0 0 ++ (num n 2 ++ entries)) (sym count);
+      is = append_assoc (full 0 0) (num (length (infos_of is)) 2) entries ∙ ap (λ (n : ℕ). full 0 0 ++ (num n 2 ++ entries)) (length-map is info_of ∙ sym count);
       texts = infes_are is is 0 plain good rises;
       distinct = ap are_distinct (ids_of_infos is) ∙ distinct_rising 0 (ids_of is) rises;
     }

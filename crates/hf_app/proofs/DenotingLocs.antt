@@ -8,7 +8,8 @@ use Rattle.hf_base.specs.Number.{num}
 use Rattle.hf_base.specs.Reading.{full}
 use Rattle.hf_store.specs.Lists.{IsIn, RisesFrom}
 use Rattle.hf_store.specs.Store.{Item, ids_of}
-use Rattle.hf_store.specs.Layout.{own, has_bytes, with_bytes, in_idat, offset_of, iloc_entry, item_entry, iloc_body}
+use Rattle.hf_loc.specs.Iloc.{iloc_entry, entry_text, iloc_body}
+use Rattle.hf_store.specs.Layout.{own, has_bytes, with_bytes, in_idat, offset_of, entry_of, entries_of}
 use Rattle.hf_store.specs.Plain.{IsPlainItem, ArePlain}
 use Rattle.hf_store.proofs.PlainLengths.{not_in_idat}
 use Rattle.hf_plan.specs.Lay.{IsWrittenExtent}
@@ -51,19 +52,19 @@ short_entries is plain =
       some = some_bytes i.bytes some;
     })
 
-entry_is : (file_len : ℕ) (all : List Item) (i : Item) → IsShortEntry i → IsWrittenExtent own 4 file_len all i → IsEntry (item_entry own false 4 file_len all i) (loc_of_item file_len all i)
+entry_is : (file_len : ℕ) (all : List Item) (i : Item) → IsShortEntry i → IsWrittenExtent own 4 file_len all i → IsEntry (entry_text false 4 (entry_of own file_len all i)) (loc_of_item file_len all i)
 unfolding iloc_entry
 entry_is file_len all i short extent =
     let offset = offset_of own file_len all i in
-    let text : item_entry own false 4 file_len all i ≡ iloc_entry false 4 i.id 0 offset (length i.bytes) = ap (λ (b : Bool). iloc_entry false 4 i.id (cond b 1 0) offset (length i.bytes)) short.outside in
+    let text : entry_text false 4 (entry_of own file_len all i) ≡ iloc_entry false 4 i.id 0 offset (length i.bytes) = ap (λ (b : Bool). iloc_entry false 4 i.id (cond b 1 0) offset (length i.bytes)) short.outside in
     (short.id, extent.offset, short.some, extent.length, text ∙ (simp append_assoc))
 
 entries_are : (file_len : ℕ) (all is : List Item) → AllByRecursion IsShortEntry is → AllByRecursion (IsWrittenExtent own 4 file_len all) is
-    → AreTexts IsEntry (flat_map (item_entry own false 4 file_len all) is) (map (loc_of_item file_len all) is)
+    → AreTexts IsEntry (flat_map (entry_text false 4) (map (entry_of own file_len all) is)) (map (loc_of_item file_len all) is)
 entries_are file_len all [] short extents = refl
 entries_are file_len all (i ∷ is) short extents = (
-  item_entry own false 4 file_len all i,
-  flat_map (item_entry own false 4 file_len all) is,
+  entry_text false 4 (entry_of own file_len all i),
+  flat_map (entry_text false 4) (map (entry_of own file_len all) is),
   refl,
   entry_is file_len all i short.0 extents.0,
   entries_are file_len all is short.1 extents.1,
@@ -94,18 +95,18 @@ length-some p (i ∷ is) =
     ]
 
 pub iloc_is : (file_len : ℕ) (is : List Item) → ArePlain is → RisesFrom ◌<◌ 0 (ids_of is) → length is < 256 ^ 2 → AllByRecursion (IsWrittenExtent own 4 file_len is) (with_bytes is)
-    → IsIloc (iloc_body own false 4 file_len is) (map (loc_of_item file_len is) (with_bytes is))
+    → IsIloc (iloc_body false 4 (entries_of own file_len is)) (map (loc_of_item file_len is) (with_bytes is))
 unfolding iloc_body
 iloc_is file_len is plain rises few extents =
-    let entries = flat_map (item_entry own false 4 file_len is) (with_bytes is) in
+    let entries = flat_map (entry_text false 4) (entries_of own file_len is) in
     let count : length (map (loc_of_item file_len is) (with_bytes is)) ≡ length (with_bytes is) = length-map (with_bytes is) (loc_of_item file_len is) in
-    let text : iloc_body own false 4 file_len is ≡ full 1 0 ++ (num 68 1 ++ (num 0 1 ++ (num (length (with_bytes is)) 2 ++ entries))) = simp append_assoc in
+    let text : iloc_body false 4 (entries_of own file_len is) ≡ full 1 0 ++ (num 68 1 ++ (num 0 1 ++ (num (length (entries_of own file_len is)) 2 ++ entries))) = simp append_assoc in
     record {
       flags = 0;
       flags_fit = omega arith;
       count = omega (arith, count, few, length-some (λ (i : Item). has_bytes i.bytes) is);
       entries = entries;
-      is = text ∙ ap (λ (n : ℕ). full 1 0 ++ (num 68 1 ++ (num 0 1 ++ (num n 2 ++ entries)))) (sym count);
+      is = text ∙ ap (λ (n : ℕ). full 1 0 ++ (num 68 1 ++ (num 0 1 ++ (num n 2 ++ entries)))) (length-map (with_bytes is) (entry_of own file_len is) ∙ sym count);
       texts = entries_are file_len is (with_bytes is) (short_entries is plain) extents;
       distinct = ap are_distinct (ids_of_locs file_len is (with_bytes is)) ∙ distinct_rising 0 (ids_of (with_bytes is)) (some_rise (λ (i : Item). has_bytes i.bytes) 0 0 is (omega arith) rises);
     }

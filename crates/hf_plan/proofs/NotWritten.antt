@@ -64,17 +64,19 @@ pub entities_are_counted : EntitiesAreCounted
 unfolding group_of
 entities_are_counted ids count w F lay = let field = lay.numbers.groups.0.count in omega (arith, count, field)
 
-last_written : (wide : Bool) (table : List Prop) (each a n last rest : ℕ) → AllByRecursion (IsWrittenItem wide table) (from_on each a n last rest) → IsWrittenItem wide table (holder (last + 1) (each * last) rest)
+last_written : (wide : Bool) (table : List Prop) (each a n last rest : ℕ) → AllByRecursion (IsWrittenItem wide table) (from_on each a n last rest)
+    → IsWrittenItem wide table (holder (last + 1) (each * last) rest)
 last_written wide table each a zero last rest all = all.0
 last_written wide table each a (suc n) last rest all = last_written wide table each (a + 1) n last rest all.1
 
-last_number : (table : List Prop) (first n k : ℕ) → k ≡ first + n → AllByRecursion (IsWrittenNumber table) (map numbered (range_with_len first (suc n))) → IsWrittenNumber table (numbered k)
+last_number : (table : List Prop) (first n k : ℕ) → k ≡ first + n → AllByRecursion (IsWrittenNumber table) (map numbered (range_with_len first (suc n)))
+    → IsWrittenNumber table (numbered k)
 last_number table first zero k e all = let same : k ≡ first = omega arith in rw same all.0
 last_number table first (suc n) k e all = last_number table (first + 1) n k (omega (arith, e)) all.1
 
-sixteen_bits : (long : Bool) → (if long then 2 ^ 15 else 2 ^ 7) ≤ 2 ^ 15
-sixteen_bits true = omega arith
-sixteen_bits false = omega arith
+fifteen_bits : (long : Bool) → (if long then 2 ^ 15 else 2 ^ 7) ≤ 2 ^ 15
+fifteen_bits true = omega arith
+fifteen_bits false = omega arith
 
 -- the number of the last of so many distinct properties is their count
 many_numbers : (count each rest k : ℕ) → k ≡ each * count + rest → 2 ^ 15 ≤ k + 1 → HasNoFile (holders count each (suc rest))
@@ -83,8 +85,10 @@ many_numbers count each rest k e many w F lay =
     let s = holders count each (suc rest) in
     let last = last_written (is_wide s.items) (table_of s) each 0 count count (suc rest) lay.numbers.items in
     let table = holders-table count each (suc rest) (k + 1) (omega (arith, e)) in
-    let fits : IsWrittenNumber (map kind (range_with_len 0 (k + 1))) (numbered k) = subst (λ (t : List Prop). IsWrittenNumber t (numbered k)) table (last_number (table_of s) (each * count) rest k e last.numbers) in
-    omega (arith, many, fits, number-kind k 0 (k + 1) (omega arith) (omega arith), sixteen_bits (is_long_table (map kind (range_with_len 0 (k + 1)))))
+    let kinds = map kind (range_with_len 0 (k + 1)) in
+    let number = last_number (table_of s) (each * count) rest k e last.numbers in
+    let fits : IsWrittenNumber kinds (numbered k) = subst (λ (t : List Prop). IsWrittenNumber t (numbered k)) table number in
+    omega (arith, many, fits, number-kind k 0 (k + 1) (omega arith) (omega arith), fifteen_bits (is_long_table kinds))
 
 pub properties_are_numbered : PropertiesAreNumbered
 properties_are_numbered = many_numbers 128 255 127 32767 refl (omega arith)

@@ -1,5 +1,5 @@
 -- How long boxes are.
-use Rattle.std.proofs.Common.{◌≡◌, ℕ, ◌+◌, ◌^◌, ◌<◌, ◌≤◌, List, ◌++◌, length, length-append, ap, refl, arith, ◌⊎◌, inl, inr}
+use Rattle.std.proofs.Common.{◌≡◌, ℕ, ◌+◌, ◌^◌, ◌<◌, ◌≤◌, List, ◌++◌, length, length-append, refl, arith, ◌⊎◌, inl, inr}
 use Rattle.std.proofs.lemmas.Bool.{cases_lt, lt-ltb, le-ltb}
 use Rattle.hf_base.specs.Number.{num}
 use Rattle.hf_base.specs.NumberLaws.{length-num}
@@ -56,11 +56,6 @@ length-box kind body four = simp length-append (omega (arith, length-box_head ki
 pub le-box : (kind : FourCc) (body : List ℕ) → length body ≤ length (box kind body)
 unfolding box
 le-box kind body = simp length-append (omega arith)
-
--- a box whose body's length is known
-pub box_is : (kind : FourCc) (body : List ℕ) (n : ℕ) → length body ≡ n → box kind body ≡ box_head kind n ++ body
-unfolding box
-box_is kind body n e = ap (λ (k : ℕ). box_head kind k ++ body) e
 
 pub box_len-mono : (a b : ℕ) → a ≤ b → box_len a ≤ box_len b
 box_len-mono a b h =

@@ -21,7 +21,7 @@ use Rattle.hf_links.specs.Grpl.{grpl_body}
 use Rattle.hf_links.specs.Iref.{iref_body}
 use Rattle.hf_prop.specs.Ipma.{ipma_body}
 use Rattle.hf_prop.specs.Iprp.{is_long_table, ipco_body, iprp_body}
-use Rattle.hf_store.specs.Layout.{is_wide, info_of, infos_of, all_boxes, has_props, assocs_of, iprp_of, in_idat, bytes_in, idat_body, box_if_any, meta_front}
+use Rattle.hf_store.specs.Layout.{is_wide, info_of, infos_of, all_boxes, has_props, assocs_of, iprp_of, in_idat, bytes_in, box_if_any, meta_front}
 use Rattle.hf_store.specs.Valid.{IsFour, IsGoodItem}
 use Rattle.hf_store.specs.Plain.{IsPlainItem, ArePlain, IsPlain}
 use Rattle.hf_store.proofs.BoxLengths.{length-box, box_len-short}
@@ -59,11 +59,8 @@ pub none_in_idat : (is : List Item) → ArePlain is → filter in_idat is ≡ []
 none_in_idat [] plain = refl
 none_in_idat (i ∷ is) plain = rw (not_in_idat i plain.0) (none_in_idat is plain.1)
 
-pub no_idat : (is : List Item) → ArePlain is → idat_body is ≡ []
-unfolding bytes_in
-no_idat is plain = rw (none_in_idat is plain) refl
-
-no_box : {A : Type 0} (kind : FourCc) (body : List A → List ℕ) → length (box_if_any kind body []) ≡ 0
+-- where nothing is listed
+pub no_box : {A : Type 0} (kind : FourCc) (body : List A → List ℕ) → length (box_if_any kind body []) ≡ 0
 unfolding box_if_any
 no_box kind body = refl
 

@@ -40,7 +40,9 @@ is_id is id = list_any (λ x. x == id) (ids_of is)
 
 -- the boxes that are written: one for each list of each item, in order
 abbrev pub BoxesAreWritten : Type 0
-BoxesAreWritten = (wide : Bool) (is : List Item) → flat_map (λ (i : Item). flat_map (λ (r : RefList). box r.kind (reference_body wide i.id r.to)) i.refs) is ≡ flat_map (reference_box wide) (all_boxes is)
+BoxesAreWritten = (wide : Bool) (is : List Item)
+    → flat_map (λ (i : Item). flat_map (λ (r : RefList). box r.kind (reference_body wide i.id r.to)) i.refs) is
+    ≡ flat_map (reference_box wide) (all_boxes is)
 
 -- they give each item its lists back
 abbrev pub ReferencesComeBack : Type 0

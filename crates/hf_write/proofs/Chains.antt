@@ -5,6 +5,8 @@ use Rattle.std.specs.List.{flat_map}
 use Rattle.std.proofs.lemmas.List.{take_all}
 use Rattle.hf_desk.specs.Outside.{Outside}
 use Rattle.hf_desk.specs.Calls.{Puts}
+use Rattle.hf_desk.specs.Pages.{ByPut, Gives}
+use Rattle.hf_desk.proofs.Paging.{gives_as, gives_each, gives_each_stop}
 use Rattle.hf_desk.proofs.Joined.{Wrote, puts_more, puts_exit, puts_each, puts_each_stop}
 use Rattle.hf_store.proofs.Spots.{at_or, within_at}
 
@@ -22,6 +24,15 @@ module _ {X : Type 0} (f : X → List ℕ) (xs : List X) (i : ℕ) (x : X) (here
 
   pub each_stops : {a b c : Outside} {r s : Wrote} → IsErr r → IsErr s → Puts a (flat_map f (take i xs)) (Ok tt) b → Puts b (f x) r c → Puts a (flat_map f xs) s c
   each_stops ir is p q = puts_exit ir is (puts_each_stop f xs i x (within_at xs i x here) ir (each_next p q))
+
+module _ {X : Type 0} (f : X → List ℕ) (xs : List X) (i : ℕ) (x : X) (here : slice_get xs i ≡ Some x) where
+  pub gives_next : {a b c : Outside} {h m n : List ℕ} {s : Wrote} → Gives ByPut a h (flat_map f (take i xs)) (Ok tt) b m → Gives ByPut b m (f x) s c n
+      → Gives ByPut a h (flat_map f (take (i + 1) xs)) s c n
+  gives_next p q = gives_each f xs i x (within_at xs i x here) p (gives_as (ap f (sym (at_or xs i x x here))) q)
+
+  pub gives_last : {a b c : Outside} {h m n : List ℕ} {r s : Wrote} → IsErr r → IsErr s → Gives ByPut a h (flat_map f (take i xs)) (Ok tt) b m → Gives ByPut b m (f x) r c n
+      → Gives ByPut a h (flat_map f xs) s c n
+  gives_last ir is p q = gives_each_stop f xs i x (within_at xs i x here) ir is p (gives_as (ap f (sym (at_or xs i x x here))) q)
 
 pub each_done : {X : Type 0} (f : X → List ℕ) (xs : List X) (i : ℕ) {a b : Outside} {s : Wrote} → length xs ≤ i → Puts a (flat_map f (take i xs)) s b → Puts a (flat_map f xs) s b
 each_done f xs i h p = puts_as (ap (flat_map f) (take_all i xs h)) p

@@ -6,13 +6,16 @@ use Rattle.hf_box.specs.Head.{box_head, box}
 use Rattle.hf_box.specs.Literals.{four}
 use Rattle.hf_head.specs.Hdlr.{hdlr_body}
 use Rattle.hf_head.specs.Pitm.{pitm_body}
+use Rattle.hf_info.specs.Iinf.{iinf_body}
+use Rattle.hf_loc.specs.Iloc.{offset_width, entry_text, iloc_body}
+use Rattle.hf_prop.specs.Iprp.{iprp_body}
 use Rattle.hf_store.specs.Store.{Item, ItemStore}
-use Rattle.hf_store.specs.Layout.{own, is_wide, has_bytes, item_entry, iinf_body, iprp_body, iloc_body, meta_body}
-use Rattle.hf_plan.specs.Plan.{offset_width, Planned}
+use Rattle.hf_store.specs.Layout.{own, is_wide, has_bytes, infos_of, iprp_of, entry_of, entries_of, meta_body}
+use Rattle.hf_plan.specs.Plan.{Planned}
 
 -- the entry of an item in `iloc`; one without bytes has none
 abbrev pub entry_if_any : Bool → ℕ → ℕ → List Item → Item → List ℕ
-entry_if_any wide w file_len is i = if has_bytes i.bytes then item_entry own wide w file_len is i else []
+entry_if_any wide w file_len is i = if has_bytes i.bytes then entry_text wide w (entry_of own file_len is i) else []
 
 -- the same, of the item at a place, by a plan
 abbrev pub planned_entry : ItemStore → Planned → Item → List ℕ
@@ -27,8 +30,8 @@ meta_begin s p =
 -- the boxes of `meta` behind `pitm`
 abbrev pub meta_end : ItemStore → Planned → List ℕ
 meta_end s p =
-    box (four "iinf") (iinf_body (is_wide s.items) s.items)
-    ++ (box (four "iprp") (iprp_body p.wide s) ++ box (four "iloc") (iloc_body own p.wide (offset_width p.long) p.total s.items))
+    box (four "iinf") (iinf_body (is_wide s.items) (infos_of s.items))
+    ++ (box (four "iprp") (iprp_body p.wide (iprp_of s)) ++ box (four "iloc") (iloc_body p.wide (offset_width p.long) (entries_of own p.total s.items)))
 
 abbrev pub bytes_of : Item → List ℕ
 bytes_of i = i.bytes

@@ -6,7 +6,8 @@ ghost use Rattle.hf_box.specs.Literals.{four};
 ghost use Rattle.hf_desk.specs.Calls.{Puts};
 ghost use Rattle.hf_store.specs.Layout.{own, meta_body};
 ghost use Rattle.hf_plan.specs.Canon.{Canon};
-ghost use Rattle.hf_plan.specs.Plan.{offset_width, IsPlan};
+ghost use Rattle.hf_loc.specs.Iloc.{offset_width};
+ghost use Rattle.hf_plan.specs.Plan.{IsPlan};
 ghost use Rattle.hf_write.specs.Entries.{meta_begin, meta_end};
 
 use crate::header::{body_of, put_header};

@@ -7,71 +7,65 @@ ghost use Rattle.hf_base.specs.Reading.{full as full_box};
 ghost use Rattle.hf_box.specs.Head.{box};
 ghost use Rattle.hf_box.specs.Literals.{four};
 ghost use Rattle.hf_box.specs.Written.{id_width, id_version};
+ghost use Rattle.hf_desk.specs.Outside.{Outside};
 ghost use Rattle.hf_desk.specs.Calls.{Puts};
-ghost use Rattle.hf_store.specs.Layout.{is_wide, infe_box, iinf_body};
-ghost use Rattle.hf_store.specs.Plain.{IsPlainItem};
+ghost use Rattle.hf_desk.specs.Pages.{ByPut, Gives};
+ghost use Rattle.hf_info.specs.Infe.{info_of as shown, infe_box};
+ghost use Rattle.hf_info.specs.Iinf.{iinf_body};
+ghost use Rattle.hf_store.specs.Layout.{is_wide, info_of, infos_of};
 ghost use Rattle.hf_store.specs.Seen.{item_of};
 ghost use Rattle.hf_plan.specs.Plan.{IsPlan};
 
 use crate::header::{body_of, put_header};
 use hf_base::be_put;
-use hf_base::kinds::{IINF, INFE};
-use hf_desk::{Desk, WriteFault, put_all};
+use hf_base::kinds::IINF;
+use hf_desk::{Desk, Page, Put, WriteFault, put_all};
+use hf_info::{Info, give_infe};
 use hf_plan::Plan;
 use hf_store::{Item, Store};
 
-/// An `infe` with an id of two bytes, in version 2.
-fn narrow_infe(item: &Item<'_>) -> [u8; 21]
-    requires plain { IsPlainItem (item_of item.now) }
-    requires narrow { item.now.id < 256 ^ 2 }
-    ensures { result ≡ infe_box false (item_of item.now) }
+/// What the entry of an item says.
+fn info_in(item: &Item<'_>) -> Info<'static>
+    ensures { shown result ≡ info_of (item_of item.now) }
 {
-    let mut bytes = [0u8; 21];
-    be_put(&mut bytes, 0, 4, 21);
-    bytes[4..8].copy_from_slice(&INFE.0);
-    bytes[8] = 2;
-    be_put(&mut bytes, 12, 2, item.id as u64);
-    bytes[16..20].copy_from_slice(&item.kind.0);
-    bytes
-}
-
-/// An `infe` with an id of four bytes, in version 3.
-fn wide_infe(item: &Item<'_>) -> [u8; 23]
-    requires { IsPlainItem (item_of item.now) }
-    ensures { result ≡ infe_box true (item_of item.now) }
-{
-    let mut bytes = [0u8; 23];
-    be_put(&mut bytes, 0, 4, 23);
-    bytes[4..8].copy_from_slice(&INFE.0);
-    bytes[8] = 3;
-    be_put(&mut bytes, 12, 4, item.id as u64);
-    bytes[18..22].copy_from_slice(&item.kind.0);
-    bytes
-}
-
-/// Puts the entry of an item.
-fn put_infe<D: Desk>(item: &Item<'_>, wide: bool, desk: &mut D) -> Result<(), WriteFault>
-    requires creating { (D.outside desk.old).creating ≡ true }
-    requires plain { IsPlainItem (item_of item.now) }
-    requires fits { item.now.id < 256 ^ id_width wide }
-    ensures { Puts (D.outside desk.old) (infe_box wide (item_of item.now)) result (D.outside desk.new) }
-{
-    if wide {
-        return put_all(desk, &wide_infe(item));
+    Info {
+        id: item.id,
+        kind: item.kind,
+        hidden: false,
+        name: &[],
+        content: &[],
+        encoding: &[],
+        uri: &[],
     }
-    put_all(desk, &narrow_infe(item))
+}
+
+/// Gives the entries of all items to a page.
+fn give_infes<D: Desk>(
+    store: &Store<'_>,
+    wide: bool,
+    page: &mut Page<Put>,
+    desk: &mut D,
+) -> Result<(), WriteFault>
+    requires creating { (D.outside desk.old).creating ≡ true }
+    requires wide { wide ≡ is_wide store.now.items }
+    ensures { Gives ByPut (D.outside desk.old) page.old (flat_map (infe_box wide) (infos_of store.now.items)) result (D.outside desk.new) page.new }
+{
+    for i in 0..store.len() {
+        let info = info_in(store.at(i));
+        give_infe(&info, wide, page, desk)?;
+    }
+    Ok(())
 }
 
 /// Puts the entries of all items.
 fn put_infes<D: Desk>(store: &Store<'_>, wide: bool, desk: &mut D) -> Result<(), WriteFault>
     requires creating { (D.outside desk.old).creating ≡ true }
     requires wide { wide ≡ is_wide store.now.items }
-    ensures { Puts (D.outside desk.old) (flat_map (infe_box wide) store.now.items) result (D.outside desk.new) }
+    ensures { Puts (D.outside desk.old) (flat_map (infe_box wide) (infos_of store.now.items)) result (D.outside desk.new) }
 {
-    for i in 0..store.len() {
-        put_infe(store.at(i), wide, desk)?;
-    }
-    Ok(())
+    let mut page = Page::new();
+    give_infes(store, wide, &mut page, desk)?;
+    page.end(desk)
 }
 
 /// Version 0, and a count of two bytes.
@@ -115,7 +109,7 @@ pub(crate) fn put_iinf<D: Desk>(
 ) -> Result<(), WriteFault>
     requires creating { (D.outside desk.old).creating ≡ true }
     requires plan { IsPlan store.now plan.now }
-    ensures { Puts (D.outside desk.old) (box (four "iinf") (iinf_body (is_wide store.now.items) store.now.items)) result (D.outside desk.new) }
+    ensures { Puts (D.outside desk.old) (box (four "iinf") (iinf_body (is_wide store.now.items) (infos_of store.now.items))) result (D.outside desk.new) }
 {
     let count = store.len() as u64;
     let ids = plan.wide();

@@ -5,7 +5,8 @@ ghost use Rattle.hf_box.specs.Head.{box};
 ghost use Rattle.hf_box.specs.Literals.{four};
 ghost use Rattle.hf_box.specs.Written.{id_version};
 ghost use Rattle.hf_desk.specs.Calls.{Puts};
-ghost use Rattle.hf_store.specs.Layout.{iprp_body};
+ghost use Rattle.hf_prop.specs.Iprp.{iprp_body};
+ghost use Rattle.hf_store.specs.Layout.{iprp_of};
 ghost use Rattle.hf_write.specs.Entries.{empty_bytes};
 
 use hf_base::be_put;
@@ -42,7 +43,7 @@ pub(crate) fn put_iprp<D: Desk>(
     desk: &mut D,
 ) -> Result<(), WriteFault>
     requires creating { (D.outside desk.old).creating ≡ true }
-    ensures { Puts (D.outside desk.old) (box (four "iprp") (iprp_body wide store.now)) result (D.outside desk.new) }
+    ensures { Puts (D.outside desk.old) (box (four "iprp") (iprp_body wide (iprp_of store.now))) result (D.outside desk.new) }
 {
     store.valid_and_plain();
     put_all(desk, &empty_iprp(version_of(wide)))

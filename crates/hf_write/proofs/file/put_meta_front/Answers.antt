@@ -1,6 +1,6 @@
 use Rattle.std.proofs.Common.{length, refl, sym, ap, ◌∙◌, arith}
 use Rattle.hf_store.specs.Layout.{own, meta_body}
-use Rattle.hf_plan.specs.Plan.{offset_width}
+use Rattle.hf_loc.specs.Iloc.{offset_width}
 use Rattle.hf_desk.proofs.Joined.{puts_then}
 use Rattle.hf_write.proofs.Chains.{puts_as, stops}
 use Rattle.hf_write.proofs.Files.{meta_sized, begin_is, primary_fits}

@@ -1,14 +1,9 @@
-use Rattle.std.proofs.Common.{refl, arith}
-use Rattle.hf_write.specs.Entries.{planned_entry}
-use Rattle.hf_write.proofs.Chains.{each_next, each_stops, there_is}
+use Rattle.std.proofs.Common.{refl}
+use Rattle.hf_desk.proofs.Paging.{put_end, put_stop}
 use Rattle.hf_write.proofs.iloc.put_entries.Goals as goal
 
-pub returns-in_err-put_entry : goal.returns-in_err-put_entry
-returns-in_err-put_entry g c =
-    let item = there_is c.args.store.now.items c.loop-i.i (omega (arith, c.loop-i-test.true, c.len-i-end.ensures.count)) in
-    each_stops (planned_entry c.args.store.now c.args.plan.now) c.args.store.now.items c.loop-i.i item.0 item.1 refl c.from_residual.ensures.0 c.loop-i.invariant (c.in_err-put_entry.ensures item.0 item.1)
+pub returns-in_err-give_entries : goal.returns-in_err-give_entries
+returns-in_err-give_entries g c = put_stop refl c.from_residual.ensures.0 (rw c.new-page.ensures at c.in_err-give_entries.ensures)
 
-pub loop-i-preserved : goal.loop-i-preserved
-loop-i-preserved g c =
-    let item = there_is c.args.store.now.items c.loop-i.i (omega (arith, c.loop-i-test.true, c.len-i-end.ensures.count)) in
-    each_next (planned_entry c.args.store.now c.args.plan.now) c.args.store.now.items c.loop-i.i item.0 item.1 c.loop-i.invariant (c.in_ok-put_entry.ensures item.0 item.1)
+pub returns : goal.returns
+returns g c = put_end (rw c.new-page.ensures at c.in_ok-give_entries.ensures) c.end.ensures.writes
