@@ -1,9 +1,9 @@
 -- Places without a fault have bytes, and as many as their extents state.
-use Rattle.std.proofs.Common.{◌≡◌, ℕ, zero, suc, ◌+◌, ◌-◌, ◌<◌, ◌≤◌, Bool, true, false, ◌&&◌, ◌⊎◌, inl, inr, List, [], ◌∷◌, ◌++◌, length, map, take, drop, refl, sym, ap, ◌∙◌, arith, Option, Some, None, sum, cond, Ok, length-append}
+use Rattle.std.proofs.Common.{◌≡◌, ℕ, zero, suc, ◌+◌, ◌≤◌, Bool, true, false, ◌&&◌, inl, inr, List, [], ◌∷◌, ◌++◌, length, map, take, drop, refl, sym, ap, ◌∙◌, arith, Option, Some, None, sum, Ok, length-append}
 use Rattle.std.specs.Prelude.{◌==◌, not, nat_lt, if◌then◌else◌}
-use Rattle.std.specs.List.{list_any, find}
-use Rattle.std.specs.Option.{option_map, option_and_then, is_none}
-use Rattle.std.proofs.lemmas.Bool.{false≢true, ltb-true, lt-ltb, le-ltb}
+use Rattle.std.specs.List.{list_any}
+use Rattle.std.specs.Option.{option_and_then, is_none}
+use Rattle.std.proofs.lemmas.Bool.{cases_Bool, false≢true, lt-ltb}
 use Rattle.std.proofs.lemmas.Bool.Decides.{nat_tests}
 use Rattle.std.proofs.lemmas.List.{length-drop, length-take-le}
 use Rattle.std.proofs.lemmas.List.Sums.{sum_by-cons}
@@ -13,20 +13,16 @@ use Rattle.hf_base.specs.Located.{Located, item_with, source_of, id_at}
 use Rattle.hf_base.specs.Members.{IsIn}
 use Rattle.hf_base.specs.Levels.{over, told}
 use Rattle.hf_base.specs.BytesOf.{by_method, piece_in, bytes_in, bytes_of, joined_pieces, piece_of}
-use Rattle.hf_base.specs.Counts.{ends_in, ends, source_size, extent_size, size_in, size_of, inner_size}
+use Rattle.hf_base.specs.Counts.{ends_in, ends, extent_size, size_in, size_of, inner_size}
 use Rattle.hf_base.specs.LocationFaults.{passes, has_extents, has_bad_method, lacks_idat, has_bad_index, is_endless, is_out_of_file, is_out_of_idat, is_out_of_item, bad_method_fault, no_idat_fault, bad_index_fault, loc_cycle_fault, out_of_file_fault, out_of_idat_fault, out_of_item_fault, locations_fault}
-use Rattle.hf_base.proofs.LevelLaws.{stable, source_ends, in_item, size_local}
+use Rattle.hf_base.proofs.LevelLaws.{stable, source_ends, size_local}
 use Rattle.hf_base.proofs.FaultLaws.{AreFine, none_has, parts_fine}
-
-either : (b : Bool) → (b ≡ true) ⊎ (b ≡ false)
-either true = inl refl
-either false = inr refl
 
 -- ---- members
 
 pub row_in : (id : ℕ) (items : List Located) (s : Located) → item_with id items ≡ Some s → IsIn s items
 row_in id [] s found = absurd (cc)
-row_in id (x ∷ xs) s found = elim (either (x.id == id)) [
+row_in id (x ∷ xs) s found = elim (cases_Bool (x.id == id)) [
   | inl same ↦ (let e : item_with id (x ∷ xs) ≡ Some x = rw same refl in inl (cc))
   | inr other ↦ (let e : item_with id (x ∷ xs) ≡ item_with id xs = rw other refl in inr (row_in id xs s (sym e ∙ found)))
 ]
@@ -40,7 +36,7 @@ source_in items r e s found = chosen_in items (id_at e.index r.sources) s found
 
 pub any_not : {A : Type 0} (p : A → Bool) (xs : List A) (x : A) → list_any p xs ≡ false → IsIn x xs → p x ≡ false
 any_not p [] x none is = absurd is
-any_not p (y ∷ ys) x none is = elim (either (p y)) [
+any_not p (y ∷ ys) x none is = elim (cases_Bool (p y)) [
   | inl held ↦ (let e : list_any p (y ∷ ys) ≡ true = rw held refl in absurd (cc))
   | inr fails ↦ (
       let e : list_any p (y ∷ ys) ≡ list_any p ys = rw fails refl in
@@ -60,7 +56,7 @@ there (Some x) none = (x, refl)
 -- ---- one extent
 
 pub piece_fits : (base : ℕ) (e : Extent) (source : List ℕ) → nat_lt (length source) (base + e.offset + e.length) ≡ false → (p : List ℕ) × (piece_of base e (Some source) ≡ Some p) × (length p ≡ (if e.length == 0 then length source else e.length))
-piece_fits base e source within = elim (either (e.length == 0)) [
+piece_fits base e source within = elim (cases_Bool (e.length == 0)) [
   | inl whole ↦ (source, rw whole refl, rw whole refl)
   | inr part ↦ (
       let fits : base + e.offset + e.length ≤ length source = grind (arith, nat_tests) in
@@ -125,7 +121,7 @@ pub not_endless : (items : List Located) (r : Located) → loc_cycle_fault items
 unfolding loc_cycle_fault
 not_endless items r ending is =
     let e : not (ends items r) ≡ false = none_has (is_endless items) (λ id. LocCycle id) items r ending is in
-    elim (either (ends items r)) [ inl held ↦ held | inr fails ↦ (let f : not (ends items r) ≡ true = rw fails refl in absurd (cc)) ]
+    elim (cases_Bool (ends items r)) [ inl held ↦ held | inr fails ↦ (let f : not (ends items r) ≡ true = rw fails refl in absurd (cc)) ]
 
 pub fine_ends : (F : List ℕ) (idat : Option (List ℕ)) (items : List Located) (r : Located) → AreFine F idat items → IsIn r items → ends items r ≡ true
 fine_ends F idat items r p is = not_endless items r p.ending is
@@ -138,7 +134,7 @@ idat_there (Some inner) none = (inner, refl, refl)
 part_there : (F : List ℕ) (idat : Option (List ℕ)) (items : List Located) (r : Located) (e : Extent) (other : Located → Option (List ℕ)) (size : Located → ℕ) → IsFine F idat items r → IsIn e r.extents
     → ((r.method == 2) ≡ true → (s : Located) → source_of items r e ≡ Some s → (b : List ℕ) × (other s ≡ Some b) × (length b ≡ size s) × (size s ≡ size_of (length F) (inner_size idat) items s))
     → (p : List ℕ) × (piece_in F idat items other r e ≡ Some p) × (length p ≡ extent_size (length F) (inner_size idat) items size r e)
-part_there F idat items r e other size fine is sources = elim (either (r.method == 2)) [
+part_there F idat items r e other size fine is sources = elim (cases_Bool (r.method == 2)) [
   | inl two ↦ (
       let named = any_not (λ (x : Extent). is_none (source_of items r x)) r.extents e (second (r.method == 2) _ fine.named two) is in
       let s = there (source_of items r e) named in
@@ -150,7 +146,7 @@ part_there F idat items r e other size fine is sources = elim (either (r.method 
       let found = extent_fits r.base e _ known.0 (size s.0) o known.2 within_s in
       (found.0, found.1, found.2 ∙ ap (λ k. if e.length == 0 then k else e.length) (sym n))
       )
-  | inr two ↦ elim (either (r.method == 1)) [
+  | inr two ↦ elim (cases_Bool (r.method == 1)) [
     | inl one ↦ (
         let inner = idat_there idat (second (has_extents r.extents) (is_none idat) (second (r.method == 1) _ fine.inner one) (not_empty e r.extents is)) in
         let within : passes (inner_size idat) r e ≡ false = any_not (passes (inner_size idat) r) r.extents e (second (r.method == 1) _ fine.in_idat one) is in

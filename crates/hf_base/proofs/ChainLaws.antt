@@ -1,14 +1,12 @@
 -- What levels do: where an item has bytes, more levels change nothing; where items lie in each other, no level gives bytes.
-use Rattle.std.proofs.Common.{◌≡◌, ℕ, zero, suc, ◌+◌, ◌≤◌, Bool, true, false, List, length, map, refl, sym, ap, ◌∙◌, arith, Option, Some, None, Ok}
-use Rattle.std.specs.Prelude.{◌==◌}
+use Rattle.std.proofs.Common.{◌≡◌, ℕ, zero, suc, ◌≤◌, Bool, true, false, List, length, refl, sym, ◌∙◌, arith, Option, Some, None, Ok}
 use Rattle.std.proofs.lemmas.Bool.{false≢true, eq-eqb}
-use Rattle.hf_base.specs.declared.loc.Extent.{Extent}
-use Rattle.hf_base.specs.Located.{Located, source_of}
+use Rattle.hf_base.specs.Located.{Located}
 use Rattle.hf_base.specs.Members.{IsIn}
-use Rattle.hf_base.specs.Levels.{over, told}
-use Rattle.hf_base.specs.BytesOf.{by_method, piece_in, bytes_in, bytes_at, bytes_of}
+use Rattle.hf_base.specs.Levels.{over}
+use Rattle.hf_base.specs.BytesOf.{bytes_in, bytes_at, bytes_of}
 use Rattle.hf_base.specs.Counts.{ends_in, ends}
-use Rattle.hf_base.specs.Chains.{IsEndlessChain}
+use Rattle.hf_base.specs.Chains.{LiesIn, IsEndlessChain, by_turns}
 use Rattle.hf_base.specs.LocationFaults.{locations_fault}
 use Rattle.hf_base.proofs.LevelLaws.{stable, source_ends, bytes_local}
 use Rattle.hf_base.proofs.BytesLaws.{bytes_there}
@@ -60,3 +58,7 @@ refused_chain F idat items walk endless is fine =
     let found = bytes_there F idat items (walk 0) fine is in
     let ending = bytes_end F idat items (walk 0) found.0 found.1 in
     false≢true (sym (never_ends items walk endless) ∙ ending)
+
+pub turns : (items : List Located) (r s : Located) → LiesIn items r s → LiesIn items s r → (n : ℕ) → LiesIn items (by_turns r s n) (by_turns r s (suc n))
+turns items r s there back zero = there
+turns items r s there back (suc n) = turns items s r back there n

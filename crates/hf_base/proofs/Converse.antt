@@ -1,9 +1,9 @@
 -- Where each item has bytes and the limits are kept, the places have no fault.
-use Rattle.std.proofs.Common.{◌≡◌, ℕ, zero, suc, ◌+◌, ◌-◌, ◌<◌, ◌≤◌, Bool, true, false, ◌&&◌, ◌⊎◌, inl, inr, List, [], ◌∷◌, ◌++◌, length, map, take, drop, refl, sym, ap, ◌∙◌, arith, Option, Some, None, sum, cond, Ok, length-append}
+use Rattle.std.proofs.Common.{◌≡◌, ℕ, zero, suc, ◌+◌, ◌≤◌, Bool, true, false, ◌&&◌, inl, inr, List, [], ◌∷◌, ◌++◌, length, map, take, drop, refl, sym, ap, ◌∙◌, arith, Option, Some, None, sum, Ok, length-append}
 use Rattle.std.specs.Prelude.{◌==◌, not, nat_lt, if◌then◌else◌}
-use Rattle.std.specs.List.{list_any, list_all}
+use Rattle.std.specs.List.{list_any}
 use Rattle.std.specs.Option.{option_map, is_none}
-use Rattle.std.proofs.lemmas.Bool.{false≢true, ltb-true, lt-ltb, le-ltb, and_parts}
+use Rattle.std.proofs.lemmas.Bool.{cases_Bool, false≢true, le-ltb, and_parts}
 use Rattle.std.proofs.lemmas.Bool.Decides.{nat_tests}
 use Rattle.std.proofs.lemmas.List.{length-drop, length-take-le}
 use Rattle.std.proofs.lemmas.List.Sums.{sum_by-cons}
@@ -15,16 +15,12 @@ use Rattle.hf_base.specs.Located.{Located, source_of}
 use Rattle.hf_base.specs.Members.{IsIn}
 use Rattle.hf_base.specs.Levels.{over, told}
 use Rattle.hf_base.specs.BytesOf.{by_method, piece_in, bytes_in, bytes_of, joined_pieces, piece_of}
-use Rattle.hf_base.specs.Counts.{ends_in, ends, leaves_of, extent_size, size_in, size_of, inner_size}
+use Rattle.hf_base.specs.Counts.{ends_in, ends, extent_size, size_in, size_of, inner_size}
 use Rattle.hf_base.specs.LocationFaults.{passes, has_extents, is_whole, is_external, has_bad_method, has_zero_length, lacks_idat, has_bad_index, is_endless, is_out_of_file, is_out_of_idat, is_out_of_item, limited, external_fault, bad_method_fault, zero_length_fault, no_idat_fault, bad_index_fault, loc_cycle_fault, out_of_file_fault, out_of_idat_fault, too_scattered_fault, out_of_item_fault, too_many_bytes_fault, locations_fault}
 use Rattle.hf_base.specs.Placed.{IsPlaced, ArePlaced}
 use Rattle.hf_base.proofs.LevelLaws.{all_from, bytes_are, in_item}
 use Rattle.hf_base.proofs.FaultLaws.{none_refused, none_has, parts_fine, fine_parts}
 use Rattle.hf_base.proofs.BytesLaws.{any_not, bytes_there}
-
-either : (b : Bool) → (b ≡ true) ⊎ (b ≡ false)
-either true = inl refl
-either false = inr refl
 
 same_list : (a b : List ℕ) → Some a ≡ Some b → a ≡ b
 same_list a b e = cc
@@ -40,12 +36,12 @@ pub record HasPart (base : ℕ) (e : Extent) (o : Option (List ℕ)) (p : List �
 
 piece_back : (base : ℕ) (e : Extent) (o : Option (List ℕ)) (p : List ℕ) → piece_of base e o ≡ Some p → HasPart base e o p
 piece_back base e None p found = absurd (cc)
-piece_back base e (Some source) p found = elim (either (e.length == 0)) [
+piece_back base e (Some source) p found = elim (cases_Bool (e.length == 0)) [
   | inl whole ↦ (
       let same : source ≡ p = same_list source p (rw whole at found) in
       record { source = source; is = refl; size = rw whole (ap length (sym same)); within = λ part. absurd (false≢true (sym part ∙ whole)) }
       )
-  | inr part ↦ elim (either (nat_lt (length source) (base + e.offset + e.length))) [
+  | inr part ↦ elim (cases_Bool (nat_lt (length source) (base + e.offset + e.length))) [
     | inl past ↦ (let none : ◌≡◌ {A = Option (List ℕ)} None (Some p) = rw (part, past) at found in absurd (cc))
     | inr fits ↦ (
         let same : take e.length (drop (base + e.offset) source) ≡ p = same_list _ p (rw (part, fits) at found) in
@@ -95,7 +91,7 @@ in_file : {A : Type 0} (method : ℕ) (a b c : A) → (method == 2) ≡ false �
 in_file method a b c two one = rw (two, one) refl
 
 not_item : (method : ℕ) (b : Bool) → (method == 2) ≡ false → by_method method true true b ≡ true
-not_item method b other = elim (either (method == 1)) [ inl one ↦ rw (other, one) refl | inr one ↦ rw (other, one) refl ]
+not_item method b other = elim (cases_Bool (method == 1)) [ inl one ↦ rw (other, one) refl | inr one ↦ rw (other, one) refl ]
 
 inner_is : (idat : Option (List ℕ)) (b : List ℕ) → idat ≡ Some b → length b ≡ inner_size idat
 inner_is None b e = absurd (cc)
@@ -104,12 +100,12 @@ inner_is (Some inner) b e = ap length (sym (same_list inner b e))
 -- how many bytes the source of an extent has
 source_is : (F : List ℕ) (idat : Option (List ℕ)) (items : List Located) (r : Located) (e : Extent) (other : Located → Option (List ℕ)) (size : Located → ℕ) (source : List ℕ) → by_method r.method (Some F) idat (told None other (source_of items r e)) ≡ Some source
     → ((s : Located) → source_of items r e ≡ Some s → (b : List ℕ) → other s ≡ Some b → length b ≡ size s) → length source ≡ by_method r.method (length F) (inner_size idat) (told 0 size (source_of items r e))
-source_is F idat items r e other size source is sizes = elim (either (r.method == 2)) [
+source_is F idat items r e other size source is sizes = elim (cases_Bool (r.method == 2)) [
   | inl two ↦ (
       let s = told_back other (source_of items r e) source (sym (in_other r.method (Some F) idat _ two) ∙ is) in
       sizes s.0 s.1 source s.2 ∙ ap (told 0 size) (sym s.1) ∙ sym (in_other r.method (length F) (inner_size idat) _ two)
       )
-  | inr two ↦ elim (either (r.method == 1)) [
+  | inr two ↦ elim (cases_Bool (r.method == 1)) [
     | inl one ↦ inner_is idat source (sym (in_idat r.method (Some F) idat _ two one) ∙ is) ∙ sym (in_idat r.method (length F) (inner_size idat) _ two one)
     | inr one ↦ ap length (sym (same_list F source (sym (in_file r.method (Some F) idat _ two one) ∙ is))) ∙ sym (in_file r.method (length F) (inner_size idat) _ two one)
   ]
@@ -121,7 +117,7 @@ unfolding over
 levels_back F idat items zero r b there = absurd (cc)
 levels_back F idat items (suc n) r b there = (
   all_from (λ (e : Extent). by_method r.method true true (told false (over false (ends_in items) n) (source_of items r e))) r.extents
-      (λ e is. elim (either (r.method == 2)) [
+      (λ e is. elim (cases_Bool (r.method == 2)) [
         | inl two ↦ (
             let p = each_there (piece_in F idat items (over None (bytes_in F idat items) n) r) r.extents b there e is in
             let part = piece_back r.base e _ p.0 p.1 in
@@ -170,7 +166,7 @@ whole_then false b e held = absurd (false≢true held)
 
 -- an extent does not pass the end of its source
 inside : (F : List ℕ) (idat : Option (List ℕ)) (items : List Located) (r : Located) → IsPlaced F idat items r → (e : Extent) → IsIn e r.extents → (source : List ℕ) → ((e.length == 0) ≡ false → nat_lt (length source) (r.base + e.offset + e.length) ≡ false) → passes (length source) r e ≡ false
-inside F idat items r placed e is source within = elim (either (e.length == 0)) [
+inside F idat items r placed e is source within = elim (cases_Bool (e.length == 0)) [
   | inl zero_long ↦ (
       let ok : ((e.length == 0) && not (is_whole r e)) ≡ false = any_not (λ (x : Extent). (x.length == 0) && not (is_whole r x)) r.extents e placed.whole is in
       let whole : is_whole r e ≡ true = whole_then (e.length == 0) (is_whole r e) ok zero_long in
@@ -246,7 +242,7 @@ no_fault F idat items placed = let each = placed.each in fine_parts F idat items
 })
 
 pub limit_kept : (limit total : ℕ) (why : ℕ → ReadRefusal) → limited limit why total ≡ Ok tt → total ≤ limit
-limit_kept limit total why fine = elim (either (nat_lt limit total)) [
+limit_kept limit total why fine = elim (cases_Bool (nat_lt limit total)) [
   | inl over ↦ (let e = rw over at fine in absurd (cc))
   | inr within ↦ grind (arith, nat_tests)
 ]

@@ -1,9 +1,8 @@
 -- How many leaves and bytes a chain of doubled items has, and which fault its places have.
-use Rattle.std.proofs.Common.{◌≡◌, ℕ, zero, suc, ◌+◌, ◌-◌, ◌*◌, ◌^◌, ◌<◌, ◌≤◌, Bool, true, false, ◌&&◌, ◌||◌, ◌⊎◌, inl, inr, List, [], ◌∷◌, ◌++◌, length, map, refl, sym, ap, subst, ◌∙◌, arith, Option, Some, None, sum, min, cond, Result, Ok, Err, length-append}
-use Rattle.std.specs.Prelude.{◌==◌, not, nat_lt, if◌then◌else◌}
-use Rattle.std.specs.List.{list_all, list_any, find}
+use Rattle.std.proofs.Common.{◌≡◌, ℕ, zero, suc, ◌+◌, ◌-◌, ◌^◌, ◌<◌, ◌≤◌, Bool, true, false, ◌&&◌, ◌||◌, ◌⊎◌, inl, inr, List, [], ◌∷◌, ◌++◌, length, map, refl, sym, ap, subst, ◌∙◌, arith, Option, Some, None, sum, min, Result, Ok, Err, length-append}
+use Rattle.std.specs.Prelude.{◌==◌, not, nat_lt}
 use Rattle.std.specs.Option.{is_none}
-use Rattle.std.proofs.lemmas.Bool.{cases_lt, lt-ltb, le-ltb}
+use Rattle.std.proofs.lemmas.Bool.{cases_Bool, cases_lt, lt-ltb, le-ltb}
 use Rattle.std.proofs.lemmas.Bool.Decides.{nat_tests}
 use Rattle.std.proofs.lemmas.List.{map-append}
 use Rattle.std.proofs.lemmas.List.Sums.{sum_by-append, sum_by-cons}
@@ -13,25 +12,20 @@ use Rattle.hf_base.specs.Reading.{◌>>=◌}
 use Rattle.hf_base.specs.declared.fault.ReadRefusal.{ReadRefusal}
 use Rattle.hf_base.specs.declared.fault.ReadRefusal.TheVariants.{External, BadMethod, ZeroLength, NoIdat, BadIndex, LocCycle, OutOfFile, OutOfIdat, TooScattered, OutOfItem, TooManyBytes}
 use Rattle.hf_base.specs.declared.limits.TheConstants.{BODY, PIECES}
-use Rattle.hf_base.specs.declared.loc.Extent.{Extent}
-use Rattle.hf_base.specs.Located.{Located, item_with, source_of}
+use Rattle.hf_base.specs.Located.{Located, item_with}
 use Rattle.hf_base.specs.Members.{IsIn}
 use Rattle.hf_base.specs.Levels.{over, told}
 use Rattle.hf_base.specs.Counts.{ends_in, ends, leaves_in, leaves_of, size_in, size_of, inner_size}
-use Rattle.hf_base.specs.LocationFaults.{first_with, refused, limited, passes, is_external, has_bad_method, is_whole, has_zero_length, lacks_idat, has_bad_index, is_endless, is_out_of_file, is_out_of_idat, is_out_of_item, external_fault, bad_method_fault, zero_length_fault, no_idat_fault, bad_index_fault, loc_cycle_fault, out_of_file_fault, out_of_idat_fault, too_scattered_fault, out_of_item_fault, too_many_bytes_fault, locations_fault}
-use Rattle.hf_base.specs.Doubling.{from_front, first_item, doubled_item, doubled}
+use Rattle.hf_base.specs.LocationFaults.{first_with, refused, limited, is_external, has_bad_method, has_zero_length, lacks_idat, has_bad_index, is_endless, is_out_of_file, is_out_of_idat, is_out_of_item, external_fault, bad_method_fault, zero_length_fault, no_idat_fault, bad_index_fault, loc_cycle_fault, out_of_file_fault, out_of_idat_fault, too_scattered_fault, out_of_item_fault, too_many_bytes_fault, locations_fault}
+use Rattle.hf_base.specs.Doubling.{first_item, doubled_item, doubled}
 use Rattle.hf_base.proofs.FaultLaws.{none_refused}
 use Rattle.hf_base.proofs.Converse.{within_limit}
-
-pub either : (b : Bool) → (b ≡ true) ⊎ (b ≡ false)
-either true = inl refl
-either false = inr refl
 
 -- ---- the item with an id
 
 with_front : (id : ℕ) (xs ys : List Located) (x : Located) → item_with id xs ≡ Some x → item_with id (xs ++ ys) ≡ Some x
 with_front id [] ys x e = absurd (cc)
-with_front id (z ∷ zs) ys x e = elim (either (z.id == id)) [
+with_front id (z ∷ zs) ys x e = elim (cases_Bool (z.id == id)) [
   | inl same ↦ (
       let f : item_with id (z ∷ zs) ≡ Some z = rw same refl in
       let g : item_with id ((z ∷ zs) ++ ys) ≡ Some z = rw same refl in
@@ -46,7 +40,7 @@ with_front id (z ∷ zs) ys x e = elim (either (z.id == id)) [
 
 with_back : (id : ℕ) (xs ys : List Located) → item_with id xs ≡ None → item_with id (xs ++ ys) ≡ item_with id ys
 with_back id [] ys e = refl
-with_back id (z ∷ zs) ys e = elim (either (z.id == id)) [
+with_back id (z ∷ zs) ys e = elim (cases_Bool (z.id == id)) [
   | inl same ↦ (let f : item_with id (z ∷ zs) ≡ Some z = rw same refl in absurd (cc))
   | inr other ↦ (
       let f : item_with id (z ∷ zs) ≡ item_with id zs = rw other refl in

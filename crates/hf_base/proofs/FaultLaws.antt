@@ -1,34 +1,18 @@
 -- Places without a fault have bytes, of the stated lengths; and where each item has bytes and the limits are kept, there is no fault.
-use Rattle.std.proofs.Common.{◌≡◌, ℕ, zero, suc, ◌+◌, ◌-◌, ◌^◌, ◌<◌, ◌≤◌, Bool, true, false, ◌&&◌, ◌||◌, ◌⊎◌, inl, inr, List, [], ◌∷◌, ◌++◌, length, map, take, drop, get_or, refl, sym, ap, ◌∙◌, arith, Option, Some, None, sum, min, cond, Result, Ok, Err, length-append, subst}
-use Rattle.std.specs.Prelude.{◌==◌, not, nat_lt, if◌then◌else◌}
-use Rattle.std.specs.List.{list_all, list_any, find}
-use Rattle.std.specs.Option.{option_map, option_and_then, is_none}
-use Rattle.std.proofs.lemmas.Bool.{and_parts, and_from, false≢true, ltb-true, lt-ltb, le-ltb}
-use Rattle.std.proofs.lemmas.Bool.Decides.{nat_tests}
-use Rattle.std.proofs.lemmas.List.{length-drop, length-take-le}
+use Rattle.std.proofs.Common.{◌≡◌, ℕ, Bool, false, inl, inr, List, [], ◌∷◌, refl, sym, ap, ◌∙◌, Option, Result, Ok, Err}
+use Rattle.std.proofs.lemmas.Bool.{cases_Bool}
 use Rattle.hf_base.specs.Reading.{◌>>=◌}
 use Rattle.hf_base.specs.declared.fault.ReadRefusal.{ReadRefusal}
-use Rattle.hf_base.specs.declared.fault.ReadRefusal.TheVariants.{External, BadMethod, ZeroLength, NoIdat, BadIndex, LocCycle, OutOfFile, OutOfIdat, TooScattered, OutOfItem, TooManyBytes}
-use Rattle.hf_base.specs.declared.limits.TheConstants.{BODY, PIECES}
-use Rattle.hf_base.specs.declared.loc.Extent.{Extent}
-use Rattle.hf_base.specs.Located.{Located, item_with, source_of, id_at}
+use Rattle.hf_base.specs.Located.{Located}
 use Rattle.hf_base.specs.Members.{IsIn}
-use Rattle.hf_base.specs.Levels.{over, by_levels, told}
-use Rattle.hf_base.specs.BytesOf.{by_method, piece_in, bytes_in, bytes_of, joined_pieces, piece_of}
-use Rattle.hf_base.specs.Counts.{ends_in, ends, leaves_in, leaves_of, source_size, extent_size, size_in, size_of, inner_size}
-use Rattle.hf_base.specs.LocationFaults.{first_with, refused, limited, passes, end_of, has_extents, is_external, has_bad_method, is_whole, has_zero_length, lacks_idat, has_bad_index, is_endless, is_out_of_file, is_out_of_idat, is_out_of_item, external_fault, bad_method_fault, zero_length_fault, no_idat_fault, bad_index_fault, loc_cycle_fault, out_of_file_fault, out_of_idat_fault, too_scattered_fault, out_of_item_fault, too_many_bytes_fault, locations_fault}
-use Rattle.hf_base.proofs.LevelLaws.{map_same, all_at, all_from, stable, source_ends, told_same, in_item, bytes_are, size_is, ends_is, size_local, bytes_local}
+use Rattle.hf_base.specs.LocationFaults.{first_with, refused, external_fault, bad_method_fault, zero_length_fault, no_idat_fault, bad_index_fault, loc_cycle_fault, out_of_file_fault, out_of_idat_fault, too_scattered_fault, out_of_item_fault, too_many_bytes_fault, locations_fault}
 
 -- ---- the parts
-
-either : (b : Bool) → (b ≡ true) ⊎ (b ≡ false)
-either true = inl refl
-either false = inr refl
 
 -- no item has the fault
 pub none_has : (has : Located → Bool) (why : ℕ → ReadRefusal) (items : List Located) (r : Located) → refused why (first_with has items) ≡ Ok tt → IsIn r items → has r ≡ false
 none_has has why [] r fine is = absurd is
-none_has has why (x ∷ xs) r fine is = elim (either (has x)) [
+none_has has why (x ∷ xs) r fine is = elim (cases_Bool (has x)) [
   | inl held ↦ (let e : refused why (first_with has (x ∷ xs)) ≡ Err (why x.id) = rw held refl in absurd (cc))
   | inr fails ↦ (
       let e : first_with has (x ∷ xs) ≡ first_with has xs = rw fails refl in

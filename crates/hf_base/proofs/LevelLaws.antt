@@ -1,14 +1,14 @@
 -- What is told of an item does not depend on the number of levels, once unfolding has ended.
-use Rattle.std.proofs.Common.{◌≡◌, ℕ, zero, suc, ◌+◌, ◌<◌, ◌≤◌, Bool, true, false, ◌&&◌, ◌⊎◌, inl, inr, List, [], ◌∷◌, ◌++◌, length, map, get_or, refl, sym, ap, ◌∙◌, arith, Option, Some, None, sum, cond}
+use Rattle.std.proofs.Common.{◌≡◌, ℕ, zero, suc, ◌<◌, ◌≤◌, Bool, true, false, ◌&&◌, inl, inr, List, [], ◌∷◌, length, map, get_or, refl, sym, ap, ◌∙◌, arith, Option, Some, None, sum}
 use Rattle.std.specs.Prelude.{◌==◌, if◌then◌else◌}
-use Rattle.std.specs.List.{list_all, list_any}
-use Rattle.std.proofs.lemmas.Bool.{and_parts, and_from, false≢true}
+use Rattle.std.specs.List.{list_all}
+use Rattle.std.proofs.lemmas.Bool.{cases_Bool, and_parts, and_from, false≢true}
 use Rattle.hf_base.specs.declared.loc.Extent.{Extent}
 use Rattle.hf_base.specs.Located.{Located, source_of}
 use Rattle.hf_base.specs.Members.{IsIn}
 use Rattle.hf_base.specs.Levels.{over, by_levels, told}
 use Rattle.hf_base.specs.BytesOf.{by_method, piece_in, bytes_in, bytes_of, joined_pieces, piece_of}
-use Rattle.hf_base.specs.Counts.{ends_in, ends, leaves_in, leaves_of, source_size, extent_size, size_in, size_of}
+use Rattle.hf_base.specs.Counts.{ends_in, ends, leaves_in, leaves_of, extent_size, size_in, size_of}
 
 -- ---- lists
 
@@ -48,12 +48,8 @@ pub told_same : {A : Type 0} (nothing : A) (f g : Located → A) (o : Option Loc
 told_same nothing f g None same = refl
 told_same nothing f g (Some s) same = same s refl
 
-either : (b : Bool) → (b ≡ true) ⊎ (b ≡ false)
-either true = inl refl
-either false = inr refl
-
 pub in_item_same : {A : Type 0} (method : ℕ) (a b x y : A) → ((method == 2) ≡ true → x ≡ y) → by_method method a b x ≡ by_method method a b y
-in_item_same {A = A} method a b x y same = elim (either (method == 2)) [
+in_item_same {A = A} method a b x y same = elim (cases_Bool (method == 2)) [
   | inl two ↦ ap (λ (z : A). by_method method a b z) (same two)
   | inr other ↦ rw other refl
 ]

@@ -6,3 +6,4 @@ pub mod FaultLaws
 pub mod LevelLaws
 pub mod LengthLaws
 pub mod Meeting
+pub mod Rising

@@ -1,5 +1,5 @@
 -- Items that lie in items, and so on without end.
-use Rattle.std.specs.Prelude.{◌≡◌, ℕ, suc, List, Some}
+use Rattle.std.specs.Prelude.{◌≡◌, ℕ, zero, suc, List, Some}
 use Rattle.hf_base.specs.declared.loc.Extent.{Extent}
 use Rattle.hf_base.specs.Located.{Located, source_of}
 use Rattle.hf_base.specs.Members.{IsIn}
@@ -11,3 +11,8 @@ LiesIn items r s = (e : Extent) × IsIn e r.extents × (r.method ≡ 2) × (sour
 -- each item of the walk lies in the next one
 abbrev pub IsEndlessChain : List Located → (ℕ → Located) → Type 0
 IsEndlessChain items walk = (n : ℕ) → LiesIn items (walk n) (walk (suc n))
+
+-- two things by turns
+abbrev pub by_turns : {A : Type 0} → A → A → ℕ → A
+by_turns a b zero = a
+by_turns a b (suc n) = by_turns b a n

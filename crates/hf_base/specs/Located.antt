@@ -1,6 +1,6 @@
 -- The items of a file, each with its entry of `iloc` (ItemLocationBox of ISO/IEC 14496-12) and with the items that its
 -- references of type `iloc` name.
-use Rattle.std.specs.Prelude.{◌≡◌, ℕ, zero, suc, Bool, ◌&&◌, ◌==◌, List, [], map, filter, Option, Some, None, slice_get}
+use Rattle.std.specs.Prelude.{ℕ, zero, suc, Bool, ◌&&◌, ◌==◌, List, [], map, filter, Option, Some, None, slice_get}
 use Rattle.std.specs.List.{find, flat_map}
 use Rattle.std.specs.Option.{option_and_then}
 use Rattle.std.specs.Str.{bytes_eq}

@@ -3,7 +3,7 @@
 
 ghost use Rattle.std.specs.Prelude.{◌≡◌, ◌↔◌, ◌≤◌, ℕ, false, List, Option, Ok, Some, None, length};
 ghost use Rattle.hf_base.specs.BytesOf.{bytes_at, bytes_of};
-ghost use Rattle.hf_base.specs.Chains.{IsEndlessChain};
+ghost use Rattle.hf_base.specs.Chains.{LiesIn, IsEndlessChain, by_turns};
 ghost use Rattle.hf_base.specs.Counts.{ends, size_of, inner_size};
 ghost use Rattle.hf_base.specs.Located.{Located};
 ghost use Rattle.hf_base.specs.LocationFaults.{locations_fault};
@@ -41,4 +41,9 @@ pub fn items_located_in_each_other_have_no_bytes()
     ensures endless { (items : List Located) (walk : ℕ → Located) → IsEndlessChain items walk → ends items (walk 0) ≡ false }
     ensures refused { (F : List ℕ) (idat : Option (List ℕ)) (items : List Located) (walk : ℕ → Located) → IsEndlessChain items walk → IsIn (walk 0) items →
         ¬ (locations_fault F idat items ≡ Ok tt) }
+{}
+
+/// Two items that lie in each other, or one that lies in itself, are such a chain.
+pub fn items_that_lie_in_each_other_are_endless()
+    ensures { (items : List Located) (r s : Located) → LiesIn items r s → LiesIn items s r → IsEndlessChain items (by_turns r s) }
 {}

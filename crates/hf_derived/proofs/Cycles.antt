@@ -6,7 +6,8 @@ use Rattle.hf_base.specs.Members.{IsIn, Rises}
 use Rattle.hf_order.specs.Order.{AreWithin, IsEndless, IsOrder, IsLeft, StartsEndless}
 use Rattle.hf_derived.specs.Cycle.{pair_at, IsLeastCycle, IsFirstLeft}
 use Rattle.hf_order.proofs.Members.{in_all, in_map, from_map}
-use Rattle.hf_derived.proofs.Places.{one_place, rises_to}
+use Rattle.hf_base.proofs.Rising.{rises_to}
+use Rattle.hf_derived.proofs.Places.{one_place}
 use Rattle.hf_order.proofs.Walks.{walks_end, walks_start}
 
 -- a walk along places is a walk along their ids

@@ -1,8 +1,7 @@
 -- A part of pieces is copied one slice after the other.
-use Rattle.std.proofs.Common.{◌≡◌, ℕ, zero, suc, ◌+◌, ◌-◌, ◌<◌, ◌≤◌, min, true, List, [], ◌∷◌, ◌++◌, length, take, drop, get_or, refl, sym, ap, ◌∙◌, arith, append_assoc, length-append, inl, inr}
-use Rattle.std.proofs.lemmas.Bool.{cases_lt, and_parts, and_from}
+use Rattle.std.proofs.Common.{◌≡◌, ℕ, zero, suc, ◌+◌, ◌-◌, ◌<◌, min, true, List, [], ◌∷◌, ◌++◌, length, take, drop, get_or, refl, sym, ap, ◌∙◌, arith, append_assoc, length-append}
+use Rattle.std.proofs.lemmas.Bool.{and_parts, and_from}
 use Rattle.std.proofs.lemmas.List.{length-drop, take_min, drop_min, append-nil, take_at, take-map}
-use Rattle.std.proofs.Math.ListN.{drop_of_length-le}
 use Rattle.std.specs.Prelude.{nat_lt}
 use Rattle.std.specs.Borrow.{Bor}
 use Rattle.hf_pieces.specs.Bytes.{seen, joined, are_filled, with_piece, BeginsWith}

@@ -1,6 +1,4 @@
-use Rattle.std.proofs.Common.{Some, true, false, refl, length, suc, ap, arith}
-use Rattle.hf_base.specs.LocationFaults.{lacks_idat}
-use Rattle.hf_base.specs.Doubling.{first_item}
+use Rattle.std.proofs.Common.{Some, true, false, refl}
 use Rattle.hf_base.proofs.DoublingLaws.{too_many_leaves, past_idat, file_there, idat_there}
 use Rattle.hf_base.proofs.chain_laws.long_chains_are_too_scattered.Goals as goal
 

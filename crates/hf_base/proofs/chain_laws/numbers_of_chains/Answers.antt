@@ -1,11 +1,12 @@
 use Rattle.std.proofs.Common.{◌<◌, ◌^◌, ℕ, false, refl, None, arith, inl, inr}
+use Rattle.std.proofs.lemmas.Bool.{cases_Bool}
 use Rattle.std.specs.Prelude.{nat_lt, if◌then◌else◌}
 use Rattle.std.proofs.lemmas.Nat.{pow_pos}
-use Rattle.hf_base.proofs.DoublingLaws.{few_leaves, too_many_leaves, past_idat, file_there, either}
+use Rattle.hf_base.proofs.DoublingLaws.{few_leaves, too_many_leaves, past_idat, file_there}
 use Rattle.hf_base.proofs.chain_laws.numbers_of_chains.Goals as goal
 
 some_bytes : (k : ℕ) → 0 < (if nat_lt k 39 then 2 ^ k else 1)
-some_bytes k = let p = pow_pos k in elim (either (nat_lt k 39)) [ inl low ↦ rw low p | inr high ↦ rw high (omega arith) ]
+some_bytes k = let p = pow_pos k in elim (cases_Bool (nat_lt k 39)) [ inl low ↦ rw low p | inr high ↦ rw high (omega arith) ]
 
 pub returns : goal.returns
 returns c = record {

@@ -1,10 +1,9 @@
-use Rattle.std.proofs.Common.{◌≡◌, ◌+◌, ℕ, List, [], ◌∷◌, length, refl, ap, ◌∙◌, None, Ok, Err}
+use Rattle.std.proofs.Common.{ℕ, [], ◌∷◌, ap, ◌∙◌, None}
 use Rattle.hf_base.specs.Counts.{ends, leaves_of, size_of}
 use Rattle.hf_base.specs.Levels.{over}
 use Rattle.hf_base.specs.Located.{located_items}
 use Rattle.hf_base.specs.LocationFaults.{external_fault, bad_method_fault, zero_length_fault, no_idat_fault, bad_index_fault, loc_cycle_fault, out_of_idat_fault, too_scattered_fault}
 use Rattle.hf_base.specs.WorkedLocations.{extent, entry, located_in}
-use Rattle.hf_base.specs.declared.fault.ReadRefusal.TheVariants.{OutOfItem, TooManyBytes}
 use Rattle.hf_base.specs.declared.limits.TheConstants.{BODY}
 use Rattle.hf_base.proofs.LengthLaws.{fault_by, by_length}
 use Rattle.hf_base.proofs.worked_locations.too_many_bytes_are_refused.Goals as goal

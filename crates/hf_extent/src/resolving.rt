@@ -1,0 +1,71 @@
+//! The bytes of items.
+
+ghost use Rattle.std.specs.Prelude.{◌≡◌, ◌<◌, Ok, Some, map};
+ghost use Rattle.std.specs.Option.{option_copied};
+ghost use Rattle.hf_base.specs.Reading.{MatchOpen};
+ghost use Rattle.hf_pieces.specs.Bytes.{joined};
+ghost use Rattle.hf_base.specs.Located.{located_items};
+ghost use Rattle.hf_base.specs.BytesOf.{bytes_of};
+ghost use Rattle.hf_base.specs.LocationFaults.{locations_fault};
+ghost use Rattle.hf_extent.specs.Seen.{items_seen};
+ghost use Rattle.hf_base.specs.Members.{Rises};
+ghost use Rattle.hf_extent.specs.Places.{AreAt, HaveDistinctIds};
+
+use crate::bodies::bodies;
+use crate::chains::{loc_cycle, order};
+use crate::checks;
+use crate::items::{Located, items};
+use crate::sources::bad_index;
+use crate::totals::{check_leaves, check_sizes};
+use hf_base::{Loc, OpenFault, RefBox};
+use hf_pieces::Pieces;
+use std::alloc::Global;
+
+/// The bytes of each of these items, or the first fault of their places.
+#[tactic(auto, unfolding(hf_base::specs::LocationFaults::locations_fault))]
+fn resolve_items<'a>(
+    alloc: Global,
+    file: &'a [u8],
+    idat: Option<&'a [u8]>,
+    ids: &[u32],
+    items: &[Located<'_>],
+) -> Result<Vec<Pieces<'a>>, OpenFault>
+    requires rising { Rises ◌<◌ ids.now }
+    requires known { AreAt ids.now (items_seen items.now) }
+    ensures { let items = items_seen items.now in MatchOpen result
+        (λ bodies. (locations_fault file.now (option_copied idat.entry) items ≡ Ok tt) × (map (bytes_of file.now (option_copied idat.entry) items) items ≡ map (λ p. Some (joined p)) bodies.items))
+        (λ why. locations_fault file.now (option_copied idat.entry) items ≡ Err why) }
+{
+    checks::external(items)?;
+    checks::bad_method(items)?;
+    checks::zero_length(items)?;
+    checks::no_idat(idat, items)?;
+    bad_index(ids, items)?;
+    let order = order(alloc, ids, items)?;
+    loc_cycle(ids, items, &order)?;
+    checks::out_of_file(file, items)?;
+    checks::out_of_idat(idat, items)?;
+    check_leaves(alloc, ids, items, &order.nodes)?;
+    check_sizes(alloc, file, idat, ids, items, &order.nodes)?;
+    Ok(bodies(alloc, file, idat, ids, items, &order.nodes)?)
+}
+
+/// The bytes of each item, in the order of the ids, where they lie; or the first fault of the
+/// places of the items.
+pub fn resolve<'a>(
+    alloc: Global,
+    file: &'a [u8],
+    idat: Option<&'a [u8]>,
+    ids: &[u32],
+    locs: &[Loc],
+    links: &[RefBox],
+) -> Result<Vec<Pieces<'a>>, OpenFault>
+    requires rising { Rises ◌<◌ ids.now }
+    requires distinct { HaveDistinctIds locs.now }
+    ensures { let items = located_items ids.now locs.now links.now in MatchOpen result
+        (λ bodies. (locations_fault file.now (option_copied idat.entry) items ≡ Ok tt) × (map (bytes_of file.now (option_copied idat.entry) items) items ≡ map (λ p. Some (joined p)) bodies.items))
+        (λ why. locations_fault file.now (option_copied idat.entry) items ≡ Err why) }
+{
+    let items = items(alloc, ids, locs, links)?;
+    resolve_items(alloc, file, idat, ids, &items)
+}
