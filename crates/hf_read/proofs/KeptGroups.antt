@@ -8,17 +8,13 @@ use Rattle.hf_links.specs.Grpl.{Group}
 use Rattle.hf_order.proofs.Members.{in_map, from_map, in_filter, in_has, has_in, has_not, not_has}
 use Rattle.hf_store.specs.Lists.{not_empty}
 use Rattle.hf_read.specs.Kept.{left_of, is_kept_group, kept_groups, Stays, IsLeft}
-use Rattle.hf_read.proofs.Filters.{passes, passed}
+use Rattle.hf_read.proofs.Filters.{not_true, some_length, passes, passed}
 use Rattle.hf_read.proofs.RisingLaws.{from_rising, in_rising, rising_rises}
 
 abbrev id_of : Group → ℕ
 id_of g = g.id
 
 -- ---- distinct ids
-
-not_true : (b : Bool) → not b ≡ true → b ≡ false
-not_true true e = absurd cc
-not_true false e = refl
 
 distinct_filter : (test : Group → Bool) (groups : List Group) → are_distinct (map id_of groups) ≡ true → are_distinct (map id_of (filter test groups)) ≡ true
 distinct_filter test [] distinct = refl
@@ -54,10 +50,6 @@ unfolding kept_groups
 left_group ids groups g h =
     let m = from_map (left_of ids) (filter (is_kept_group ids) groups) g (from_rising id_of (map (left_of ids) (filter (is_kept_group ids) groups)) g h) in
     (m.0, in_filter (is_kept_group ids) groups m.0 m.1, m.2, passed (is_kept_group ids) groups m.0 m.1)
-
-some_length : (xs : List ℕ) → not_empty xs ≡ true → 0 < length xs
-some_length [] t = absurd cc
-some_length (x ∷ xs) t = omega arith
 
 pub some_left : (ids : List ℕ) (g : Group) → is_kept_group ids g ≡ true → 0 < length (left_of ids g).entities
 some_left ids g kept =
