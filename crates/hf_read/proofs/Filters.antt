@@ -1,12 +1,25 @@
--- Lists: what passes a test, and what is joined.
-use Rattle.std.proofs.Common.{◌≡◌, Bool, true, false, List, [], ◌∷◌, refl, sym, ap, subst, ◌∙◌, inl, inr}
+-- Tests, lists of what passes one, and lists that are joined.
+use Rattle.std.proofs.Common.{◌≡◌, Bool, true, false, List, [], ◌∷◌, refl, sym, ap, subst, ◌∙◌, inl, inr, ℕ, ◌<◌, not, length, arith}
 use Rattle.std.specs.List.{filter, flat_map, list_any}
 use Rattle.std.proofs.lemmas.Bool.{cases_Bool}
 use Rattle.std.proofs.lemmas.List.Concat.{flat_map-cons}
 use Rattle.hf_base.specs.Members.{IsIn}
+use Rattle.hf_store.specs.Lists.{not_empty}
 use Rattle.hf_order.proofs.Members.{in_front, in_back, in_joined}
 
 -- ---- tests
+
+pub not_true : (b : Bool) → not b ≡ true → b ≡ false
+not_true true e = absurd cc
+not_true false e = refl
+
+pub not_false : (b : Bool) → not b ≡ false → b ≡ true
+not_false true e = refl
+not_false false e = absurd cc
+
+pub some_length : (xs : List ℕ) → not_empty xs ≡ true → 0 < length xs
+some_length [] t = absurd cc
+some_length (x ∷ xs) t = omega arith
 
 pub passes : {A : Type 0} (test : A → Bool) (xs : List A) (x : A) → IsIn x xs → test x ≡ true → IsIn x (filter test xs)
 passes test [] x h t = absurd h

@@ -21,7 +21,7 @@ use Rattle.hf_store.specs.Table.{same_prop, props_of, with_prop, table_of}
 use Rattle.hf_store.proofs.Tables.{same_prop-self}
 use Rattle.hf_read.specs.Denotes.{PicksAreProps}
 use Rattle.hf_read.specs.Kept.{picks_of, prop_at, held_at, kept_props}
-use Rattle.hf_read.proofs.Filters.{from_flat}
+use Rattle.hf_read.proofs.Filters.{not_true, from_flat}
 use Rattle.hf_read.proofs.PartFaults.{from_picks}
 use Rattle.hf_read.proofs.RecordParts.{IsGoodIprp}
 
@@ -85,10 +85,6 @@ few_picks id (a ∷ rest) distinct few =
           let le = few_picks id rest p.1 (λ b h. few b (inr h)) in
           omega (arith, ap length rest_is, le)
     ]
-  where
-    not_true : (b : Bool) → not b ≡ true → b ≡ false
-    not_true true e = absurd cc
-    not_true false e = refl
 
 pub few_props : (v : Iprp) (id : ℕ) → IsGoodIprp v → length (kept_props v id) ≤ 255
 unfolding kept_props

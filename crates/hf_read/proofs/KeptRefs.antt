@@ -1,5 +1,5 @@
 -- The reference lists that are computed for an item are those that a store keeps.
-use Rattle.std.proofs.Common.{◌≡◌, ◌≢◌, ℕ, ◌<◌, Bool, true, false, not, ◌&&◌, eqb, List, [], ◌∷◌, ◌++◌, length, map, refl, sym, ap, subst, ◌∙◌, arith, inl, inr, ◌⊎◌}
+use Rattle.std.proofs.Common.{◌≡◌, ◌≢◌, ℕ, Bool, true, false, not, ◌&&◌, eqb, List, [], ◌∷◌, ◌++◌, map, refl, sym, ap, subst, ◌∙◌, inl, inr, ◌⊎◌}
 use Rattle.std.specs.List.{filter, fold}
 use Rattle.std.specs.Ordering.{nat_cmp, is_lt}
 use Rattle.std.specs.declared.cmp.Ordering.{Ordering}
@@ -20,7 +20,7 @@ use Rattle.hf_store.specs.References.{joined, kinds_of, IsKept, KeepsRefs}
 use Rattle.hf_store.specs.Valid.{IsBelow}
 use Rattle.hf_store.proofs.References.{below_transitive, below_total}
 use Rattle.hf_read.specs.Kept.{is_below, with_kind, is_kept_link, kept_kinds, kept_list, kept_refs}
-use Rattle.hf_read.proofs.Filters.{passes, passed}
+use Rattle.hf_read.proofs.Filters.{some_length, passes, passed}
 
 -- ---- a type in its place
 
@@ -167,10 +167,6 @@ lists_rise list own (k ∷ ks) up = elim (cases_Bool (some_to (list k))) [
       let rest : filter some_to (map list (k ∷ ks)) ≡ filter some_to (map list ks) = rw f refl in
       subst (λ (l : List RefList). Rises IsBelow (kinds_of l)) (sym rest) (lists_rise list own ks (rises_later k ks up))
 ]
-
-some_length : (xs : List ℕ) → not_empty xs ≡ true → 0 < length xs
-some_length [] t = absurd cc
-some_length (x ∷ xs) t = omega arith
 
 empty_or_not : (xs : List ℕ) → (xs ≡ []) ⊎ (not_empty xs ≡ true)
 empty_or_not [] = inl refl

@@ -18,7 +18,7 @@ use Rattle.hf_store.specs.Changes.{is_need}
 use Rattle.hf_read.specs.Denotes.{NeedsAreItems, PicksAreProps}
 use Rattle.hf_read.specs.Faults.{no_primary_fault, is_dangling, dangling_need_fault, is_past, bad_property_fault}
 use Rattle.hf_read.specs.Kept.{picks_of}
-use Rattle.hf_read.proofs.Filters.{passes, passed, any_none, in_flat, from_flat}
+use Rattle.hf_read.proofs.Filters.{not_false, passes, passed, any_none, in_flat, from_flat}
 
 -- ---- tests of lists
 
@@ -43,11 +43,7 @@ none_found why test (id ∷ ids) each =
 
 pub primary_there : (ids : List ℕ) (primary : ℕ) → no_primary_fault ids primary ≡ Ok tt → IsIn primary ids
 unfolding no_primary_fault
-primary_there ids primary fine = in_has primary ids (is_true (has_id primary ids) (refused_not (not (has_id primary ids)) (NoPrimary primary) tt fine))
-  where
-    is_true : (b : Bool) → not b ≡ false → b ≡ true
-    is_true true e = refl
-    is_true false e = absurd cc
+primary_there ids primary fine = in_has primary ids (not_false (has_id primary ids) (refused_not (not (has_id primary ids)) (NoPrimary primary) tt fine))
 
 pub there_primary : (ids : List ℕ) (primary : ℕ) → IsIn primary ids → no_primary_fault ids primary ≡ Ok tt
 unfolding no_primary_fault
@@ -60,7 +56,7 @@ both_false a b true e f g = let all : a && (b && true) ≡ true = rw (f, g) refl
 both_false a b false e f g = refl
 
 named : (to : ℕ) (ids : List ℕ) → not (has_id to ids) ≡ false → IsIn to ids
-named to ids f = in_has to ids (elim (cases_Bool (has_id to ids)) [ inl t ↦ t | inr off ↦ let e : not (has_id to ids) ≡ true = rw off refl in let both : true ≡ false = sym e ∙ f in absurd cc ])
+named to ids f = in_has to ids (not_false (has_id to ids) f)
 
 pub needs_are : (ids : List ℕ) (links : List RefBox) → dangling_need_fault ids links ≡ Ok tt → NeedsAreItems ids links
 unfolding dangling_need_fault

@@ -1,5 +1,5 @@
 -- Parts over the items of a store that have no fault: what they say of it.
-use Rattle.std.proofs.Common.{◌≡◌, ℕ, ◌≤◌, ◌<◌, Bool, true, false, not, ltb, List, [], ◌∷◌, length, map, Option, Some, None, Err, refl, sym, ap, subst, ◌∙◌, inl, inr}
+use Rattle.std.proofs.Common.{◌≡◌, ℕ, ◌≤◌, ◌<◌, Bool, true, false, ltb, List, [], ◌∷◌, length, map, Option, Some, None, Err, refl, sym, ap, subst, ◌∙◌, inl, inr}
 use Rattle.std.specs.Prelude.{IsTrue, if◌then◌else◌}
 use Rattle.std.proofs.lemmas.Bool.{cases_Bool, ltb-false, le-ltb}
 use Rattle.hf_base.specs.EntryLaws.{refused_not}
@@ -23,7 +23,7 @@ use Rattle.hf_store.specs.Valid.{meta_len}
 use Rattle.hf_read.specs.Faults.{first_item, is_misfit, bad_derived_fault, derive_cycle_fault, derived_fault, too_many_items_fault, has_long_list, too_many_links_fault, meta_too_long_fault, limits_fault}
 use Rattle.hf_read.specs.Walks.{first_walker}
 use Rattle.hf_read.proofs.FirstFaults.{fine}
-use Rattle.hf_read.proofs.Filters.{any_none, from_flat}
+use Rattle.hf_read.proofs.Filters.{not_false, any_none, from_flat}
 use Rattle.hf_read.proofs.WalkLaws.{least_cycle}
 
 -- ---- tests of items
@@ -47,10 +47,6 @@ items_pass why has (x ∷ xs) each =
 no_fault : (test : Bool) (e : ReadRefusal) → (if test then Err e else fine) ≡ fine → test ≡ false
 no_fault true e h = absurd cc
 no_fault false e h = refl
-
-not_false : (b : Bool) → not b ≡ false → b ≡ true
-not_false true e = refl
-not_false false e = absurd cc
 
 -- ---- derived items
 

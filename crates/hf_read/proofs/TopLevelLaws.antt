@@ -1,5 +1,5 @@
 -- The boxes of a file, and those of its `meta`: reading from left to right finds exactly them.
-use Rattle.std.proofs.Common.{◌≡◌, ◌≤◌, Bool, true, false, not, ◌||◌, List, [], ◌∷◌, length, take, Ok, Err, Some, refl, sym, ap, subst, ◌∙◌, arith, inl, inr}
+use Rattle.std.proofs.Common.{◌≡◌, ◌≤◌, true, false, not, ◌||◌, List, [], ◌∷◌, length, take, Ok, Err, Some, refl, sym, ap, subst, ◌∙◌, arith, inl, inr}
 use Rattle.std.specs.Option.{option_to_list}
 use Rattle.std.proofs.lemmas.Bool.{cases_Bool, or_parts}
 use Rattle.hf_base.specs.Reading.{◌>>=◌}
@@ -16,11 +16,8 @@ use Rattle.hf_base.specs.Entries.{refuse_if}
 use Rattle.hf_box.specs.Tables.{of_kind}
 use Rattle.hf_read.specs.TopLevel.{first_of, found, first_fault, double_fault, IsTopLevel, top_once, movie_fault, top_box_fault, ftyp_of, has_mif1, brands_at, top_of, Parts, AreParts, once, banned_fault, child_fault, parts_of}
 use Rattle.hf_base.specs.EntryLaws.{refused_not}
+use Rattle.hf_read.proofs.Filters.{not_false}
 use Rattle.hf_read.proofs.FirstFaults.{fine, IsOnce, none_banned, few, no_fault, nowhere, double_once, not_double, first_from, first_option, few_option, first_is, find_some}
-
-not_false : (b : Bool) → not b ≡ false → b ≡ true
-not_false true h = refl
-not_false false h = absurd cc
 
 -- ---- the top level
 

@@ -6,7 +6,8 @@ use Rattle.hf_base.specs.Entries.{has_id, refuse_if}
 use Rattle.hf_base.specs.LocationFaults.{refused, limited}
 use Rattle.hf_base.specs.Reading.{◌>>=◌}
 use Rattle.hf_base.specs.declared.fault.ReadRefusal.{ReadRefusal}
-use Rattle.hf_base.specs.declared.fault.ReadRefusal.TheVariants.{NoPrimary, DanglingNeed, BadProperty, BadDerived, DeriveCycle, TooManyItems, TooManyLinks, MetaTooLong}
+use Rattle.hf_base.specs.declared.fault.ReadRefusal.TheVariants.{NoPrimary, DanglingNeed, BadProperty, BadDerived, DeriveCycle}
+use Rattle.hf_base.specs.declared.fault.ReadRefusal.TheVariants.{TooManyItems, TooManyLinks, MetaTooLong}
 use Rattle.hf_base.specs.declared.limits.TheConstants as limits
 use Rattle.hf_base.specs.declared.loc.RefBox.{RefBox}
 use Rattle.hf_derived.specs.Derived.{fits}

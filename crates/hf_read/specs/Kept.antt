@@ -1,8 +1,11 @@
 -- What a store keeps of references, associations and groups. These rules are this project's own.
-use Rattle.std.specs.Prelude.{ℕ, zero, suc, Bool, not, ◌&&◌, ◌||◌, List, [], ◌∷◌, length, map, filter, fold, flat_map, ◌==◌, slice_get, Option, None, option_map, option_to_list, if◌then◌else◌}
+use Rattle.std.specs.Prelude.{◌≡◌, ◌⊎◌, ◌<◌, ℕ, zero, suc, Bool, not, ◌&&◌, ◌||◌, List, [], ◌∷◌, length, map, filter, fold, flat_map, ◌==◌, slice_get}
+use Rattle.std.specs.Prelude.{Option, None, option_map, option_to_list, if◌then◌else◌}
+use Rattle.std.specs.List.{AllByRecursion}
 use Rattle.std.specs.Ordering.{nat_cmp, is_lt}
 use Rattle.std.specs.Cmp.Lexicographic.{slice_cmp}
 use Rattle.hf_base.specs.Entries.{has_id}
+use Rattle.hf_base.specs.Members.{IsIn}
 use Rattle.hf_base.specs.declared.four.FourCc.{FourCc}
 use Rattle.hf_base.specs.declared.kinds.TheConstants.{ILOC}
 use Rattle.hf_base.specs.declared.loc.RefBox.{RefBox}
@@ -78,3 +81,13 @@ is_kept_group ids g =
 -- the groups that are kept, by rising id
 unfoldable pub kept_groups : List ℕ → List Group → List Group
 kept_groups ids groups = by_rising (λ (g : Group). g.id) (map (left_of ids) (filter (is_kept_group ids) groups))
+
+-- ---- the same, said of a group
+
+-- a group stays where one of its entities is an item, and where all of them are or nothing stands behind them
+abbrev pub Stays : List ℕ → Group → Type 0
+Stays ids g = (0 < length (left_of ids g).entities) × (AllByRecursion (λ id. IsIn id ids) g.entities ⊎ (g.tail ≡ []))
+
+-- a group of a store is what is left of one that stays
+abbrev pub IsLeft : List ℕ → List Group → Group → Type 0
+IsLeft ids groups g = (whole : Group) × IsIn whole groups × (left_of ids whole ≡ g) × Stays ids whole

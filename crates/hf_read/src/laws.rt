@@ -12,12 +12,13 @@ ghost use Rattle.hf_box.specs.Boxes.{BoxAt};
 ghost use Rattle.hf_derived.specs.Cycle.{AreAmong, IsLeastCycle};
 ghost use Rattle.hf_info.specs.Iinf.{info_ids};
 ghost use Rattle.hf_info.specs.Infe.{Info};
+ghost use Rattle.hf_links.specs.Grpl.{Group, group_ids};
 ghost use Rattle.hf_prop.specs.declared.iprp.Iprp.{Iprp};
 ghost use Rattle.hf_store.specs.Picks.{Selects};
 ghost use Rattle.hf_store.specs.References.{KeepsRefs};
 ghost use Rattle.hf_store.specs.Store.{Item, ItemStore};
 ghost use Rattle.hf_read.specs.Denotes.{PicksAreProps, Denotes, DenotesWithin};
-ghost use Rattle.hf_read.specs.Kept.{picks_of, kept_refs, kept_props};
+ghost use Rattle.hf_read.specs.Kept.{picks_of, kept_refs, kept_props, kept_groups, IsLeft};
 ghost use Rattle.hf_read.specs.Reading.{idat_of, reading, fault_of};
 ghost use Rattle.hf_read.specs.Tables.{infos_by_id, item_ids, items_in};
 ghost use Rattle.hf_read.specs.TopLevel.{Parts, AreParts, parts_of};
@@ -61,6 +62,12 @@ pub fn fault_is_none_where_denoted()
 /// The reference lists that are computed for an item are those that a store keeps.
 pub fn references_are_kept()
     ensures { (ids : List ℕ) (links : List RefBox) (from : ℕ) → KeepsRefs (λ to. has_id to ids) links from (kept_refs ids links from) }
+{}
+
+/// The groups of a store are what is left of those that stay, and rise by id where no two have one.
+pub fn groups_are_kept()
+    ensures members { (ids : List ℕ) (groups : List Group) (g : Group) → IsIn g (kept_groups ids groups) ↔ IsLeft ids groups g }
+    ensures rises { (ids : List ℕ) (groups : List Group) → IsTrue (are_distinct (group_ids groups)) → Rises ◌<◌ (group_ids (kept_groups ids groups)) }
 {}
 
 /// The properties that are computed for an item are those that its associations select, where none

@@ -3,10 +3,14 @@
 
 ghost use Rattle.std.specs.Prelude.{◌++◌, [], codes};
 ghost use Rattle.hf_base.specs.Number.{num};
-ghost use Rattle.hf_base.specs.declared.fault.ReadRefusal.TheVariants.{BadDerived, BadMethod, BadProperty, BadRecord, BadVersion, BadWidth, DanglingNeed, DeriveCycle, Double, DoubleAssoc, DoubleGroup, DoubleItem, DoubleLocation, Missing, Movie, NoPrimary, NotMif1, NotPicture, OutOfFile, ProtectionBox, Protected, Short, Xml, ZeroId};
+ghost use Rattle.hf_base.specs.declared.fault.ReadRefusal.TheVariants.{BadDerived, BadMethod, BadProperty, BadRecord, BadVersion, BadWidth};
+ghost use Rattle.hf_base.specs.declared.fault.ReadRefusal.TheVariants.{DanglingNeed, DeriveCycle, Double, DoubleAssoc, DoubleGroup, DoubleItem};
+ghost use Rattle.hf_base.specs.declared.fault.ReadRefusal.TheVariants.{DoubleLocation, Missing, Movie, NoPrimary, NotMif1, NotPicture, OutOfFile};
+ghost use Rattle.hf_base.specs.declared.fault.ReadRefusal.TheVariants.{ProtectionBox, Protected, Short, Xml, ZeroId};
 ghost use Rattle.hf_base.specs.declared.kinds.TheConstants.{FTYP, META, HDLR, PITM, IINF, INFE, ILOC, IREF, IPCO, IPMA, GRPL};
 ghost use Rattle.hf_box.specs.Literals.{hex_of};
-ghost use Rattle.hf_read.specs.SmallFiles.{Refuses, boxed, full_boxed, ftyp, hdlr, pitm, iinf, infe, iloc, entry, part, iref, reference, ipma, group, meta, file_of, with_two};
+ghost use Rattle.hf_read.specs.SmallFiles.{Refuses, boxed, full_boxed, ftyp, hdlr, pitm, iinf, infe, iloc, entry, part, iref, reference, ipma, group};
+ghost use Rattle.hf_read.specs.SmallFiles.{meta, file_of, with_two};
 
 /// Framing of the whole file, then its boxes in file order, then those of `meta`.
 pub fn top_level_comes_first()

@@ -3,12 +3,18 @@
 
 ghost use Rattle.std.specs.Prelude.{◌≡◌, ◌++◌, ◌∷◌, [], true, drop, codes, Ok, Err};
 ghost use Rattle.hf_base.specs.Number.{num};
-ghost use Rattle.hf_base.specs.declared.fault.ReadRefusal.TheVariants.{BadDerived, BadIndex, BadMethod, BadProperty, BadRecord, BadSize, BadVersion, BadWidth, DanglingNeed, DeriveCycle, Double, DoubleAssoc, DoubleGroup, DoubleItem, DoubleLocation, External, LocCycle, Missing, Movie, NoFtyp, NoIdat, NoMeta, NoPrimary, NotMif1, NotPicture, OpenSize, OutOfFile, OutOfIdat, OutOfItem, ProtectionBox, Protected, Short, TooLarge, TooManyBoxes, Xml, ZeroId, ZeroLength};
+ghost use Rattle.hf_base.specs.declared.fault.ReadRefusal.TheVariants.{BadDerived, BadIndex, BadMethod, BadProperty, BadRecord, BadSize, BadVersion};
+ghost use Rattle.hf_base.specs.declared.fault.ReadRefusal.TheVariants.{BadWidth, DanglingNeed, DeriveCycle, Double, DoubleAssoc, DoubleGroup};
+ghost use Rattle.hf_base.specs.declared.fault.ReadRefusal.TheVariants.{DoubleItem, DoubleLocation, External, LocCycle, Missing, Movie, NoFtyp};
+ghost use Rattle.hf_base.specs.declared.fault.ReadRefusal.TheVariants.{NoIdat, NoMeta, NoPrimary, NotMif1, NotPicture, OpenSize, OutOfFile};
+ghost use Rattle.hf_base.specs.declared.fault.ReadRefusal.TheVariants.{OutOfIdat, OutOfItem, ProtectionBox, Protected, Short, TooLarge, TooManyBoxes};
+ghost use Rattle.hf_base.specs.declared.fault.ReadRefusal.TheVariants.{Xml, ZeroId, ZeroLength};
 ghost use Rattle.hf_base.specs.declared.kinds.TheConstants.{FTYP, META, HDLR, PITM, IINF, INFE, ILOC, IREF, IPRP, IPCO, IPMA, GRPL, IDAT};
 ghost use Rattle.hf_box.specs.Framing.{frames_within};
 ghost use Rattle.hf_box.specs.Head.{written_at};
 ghost use Rattle.hf_box.specs.Literals.{four, hex_of};
-ghost use Rattle.hf_read.specs.SmallFiles.{Refuses, Passes, boxed, full_boxed, ftyp, hdlr, pitm, iinf, infe, iloc, entry, part, iref, reference, ipma, group, meta, file_of, with_one, with_two};
+ghost use Rattle.hf_read.specs.SmallFiles.{Refuses, Passes, boxed, full_boxed, ftyp, hdlr, pitm, iinf, infe, iloc, entry, part, iref, reference};
+ghost use Rattle.hf_read.specs.SmallFiles.{ipma, group, meta, file_of, with_one, with_two};
 
 /// The boxes of a file, and those of its `meta`: cut off, of a wrong size, or open.
 pub fn framing_is_refused()

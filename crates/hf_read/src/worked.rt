@@ -1,16 +1,32 @@
 //! Worked files, and what reading them gives. Each is the contract of a function that does nothing.
 
 ghost use Rattle.std.specs.Prelude.{◌≡◌, replicate, None, Some, Ok};
-ghost use Rattle.hf_base.specs.declared.fault.ReadRefusal.TheVariants.{BadDerived, BadProperty, BadRecord, BadSize, BadWidth, DanglingNeed, DeriveCycle, External, LocCycle, Missing, Movie, NoFtyp, NoMeta, OutOfFile, Short};
+ghost use Rattle.hf_base.specs.declared.fault.ReadRefusal.TheVariants.{BadDerived, BadProperty, BadRecord, BadSize, BadWidth, DanglingNeed};
+ghost use Rattle.hf_base.specs.declared.fault.ReadRefusal.TheVariants.{DeriveCycle, External, LocCycle, Missing, Movie, NoFtyp, NoMeta, OutOfFile};
+ghost use Rattle.hf_base.specs.declared.fault.ReadRefusal.TheVariants.{Short};
 ghost use Rattle.hf_box.specs.Literals.{four};
-ghost use Rattle.hf_store.specs.WorkedStores.{every_feature, every_feature_wide, greatest_narrow_id, identity_item, least_wide_id, one_empty_item, one_picture, overlays, photograph, photograph_bare, photograph_redacted, picture_with_exif, picture_with_thumbnail, picture_with_xmp, properties_127, properties_128, properties_300, sized_picture, turned_picture, two_alternatives, two_pictures, two_widths};
-ghost use Rattle.hf_store.specs.WorkedFiles.{file_of_one_empty_item, file_of_greatest_narrow_id, file_of_least_wide_id, file_of_two_widths, file_of_turned_picture, file_of_sized_picture, file_of_identity_item, file_of_overlays, file_of_two_alternatives, file_of_picture_with_exif, file_of_picture_with_xmp, file_of_picture_with_thumbnail, file_of_every_feature, file_of_every_feature_wide};
+ghost use Rattle.hf_store.specs.WorkedStores.{every_feature, every_feature_wide, greatest_narrow_id, identity_item, least_wide_id, one_empty_item};
+ghost use Rattle.hf_store.specs.WorkedStores.{one_picture, overlays, photograph, photograph_bare, photograph_redacted, picture_with_exif};
+ghost use Rattle.hf_store.specs.WorkedStores.{picture_with_thumbnail, picture_with_xmp, properties_127, properties_128, properties_300};
+ghost use Rattle.hf_store.specs.WorkedStores.{sized_picture, turned_picture, two_alternatives, two_pictures, two_widths};
+ghost use Rattle.hf_store.specs.WorkedFiles.{file_of_one_empty_item, file_of_greatest_narrow_id, file_of_least_wide_id, file_of_two_widths};
+ghost use Rattle.hf_store.specs.WorkedFiles.{file_of_turned_picture, file_of_sized_picture, file_of_identity_item, file_of_overlays};
+ghost use Rattle.hf_store.specs.WorkedFiles.{file_of_two_alternatives, file_of_picture_with_exif, file_of_picture_with_xmp};
+ghost use Rattle.hf_store.specs.WorkedFiles.{file_of_picture_with_thumbnail, file_of_every_feature, file_of_every_feature_wide};
 ghost use Rattle.hf_store.specs.WorkedTables.{file_of_properties_127, file_of_properties_128, file_of_properties_300};
 ghost use Rattle.hf_store.specs.WorkedPhotograph.{file_of_photograph, file_of_photograph_redacted, file_of_photograph_bare};
 ghost use Rattle.hf_read.specs.Cuts.{cut_faults};
 ghost use Rattle.hf_read.specs.Reading.{fault_of, reading};
-ghost use Rattle.hf_read.specs.WorkedFiles.{file_picture, file_pictures, file_sized, file_free_behind, file_empty_idat, file_long_sizes, file_empty_item, file_hidden_text, file_wide, file_mixed, file_greatest, file_held_by_none, file_turned, file_turned_back, file_properties_127, file_properties_128, file_properties_255, file_parted, file_identity, file_needing, file_to_no_item, file_exif, file_xmp, file_thumbnail, file_alternatives, file_tail, file_one_left, file_tail_of_less, file_photograph, file_other_exif, file_nothing, file_no_meta, file_movie, file_too_long, file_handler_of_147, file_handler_of_146, file_cut_entry, file_three_bytes, file_no_property, file_dangling, file_cycle, file_grid_of_47, file_circle, file_circle_with_tail, file_past_the_end, file_elsewhere, file_far_past_the_end};
-ghost use Rattle.hf_read.specs.WorkedStores.{store_empty_item, store_hidden_text, store_greatest, store_turned_back, store_parted, store_needing, store_tail, store_one_left, store_of_all};
+ghost use Rattle.hf_read.specs.WorkedFiles.{file_picture, file_pictures, file_sized, file_free_behind, file_empty_idat, file_long_sizes};
+ghost use Rattle.hf_read.specs.WorkedFiles.{file_empty_item, file_hidden_text, file_wide, file_mixed, file_greatest, file_held_by_none, file_turned};
+ghost use Rattle.hf_read.specs.WorkedFiles.{file_turned_back, file_properties_127, file_properties_128, file_properties_255, file_parted};
+ghost use Rattle.hf_read.specs.WorkedFiles.{file_identity, file_needing, file_to_no_item, file_exif, file_xmp, file_thumbnail, file_alternatives};
+ghost use Rattle.hf_read.specs.WorkedFiles.{file_tail, file_one_left, file_tail_of_less, file_photograph, file_other_exif, file_nothing};
+ghost use Rattle.hf_read.specs.WorkedFiles.{file_no_meta, file_movie, file_too_long, file_handler_of_147, file_handler_of_146, file_cut_entry};
+ghost use Rattle.hf_read.specs.WorkedFiles.{file_three_bytes, file_no_property, file_dangling, file_cycle, file_grid_of_47, file_circle};
+ghost use Rattle.hf_read.specs.WorkedFiles.{file_circle_with_tail, file_past_the_end, file_elsewhere, file_far_past_the_end};
+ghost use Rattle.hf_read.specs.WorkedStores.{store_empty_item, store_hidden_text, store_greatest, store_turned_back, store_parted, store_needing};
+ghost use Rattle.hf_read.specs.WorkedStores.{store_tail, store_one_left, store_of_all};
 ghost use Rattle.hf_read.specs.WorkedTables.{file_of_all};
 ghost use Rattle.hf_read.specs.Denotes.{DenotesWithin};
 
