@@ -4,7 +4,8 @@ use Rattle.std.specs.List.{find, list_any}
 use Rattle.std.specs.Option.{option_map, is_none}
 use Rattle.hf_base.specs.Reading.{◌>>=◌}
 use Rattle.hf_base.specs.declared.fault.ReadRefusal.{ReadRefusal}
-use Rattle.hf_base.specs.declared.fault.ReadRefusal.TheVariants.{External, BadMethod, ZeroLength, NoIdat, BadIndex, LocCycle, OutOfFile, OutOfIdat, TooScattered, OutOfItem, TooManyBytes}
+use Rattle.hf_base.specs.declared.fault.ReadRefusal.TheVariants.{External, BadMethod, ZeroLength, NoIdat, BadIndex, LocCycle, OutOfFile}
+use Rattle.hf_base.specs.declared.fault.ReadRefusal.TheVariants.{OutOfIdat, TooScattered, OutOfItem, TooManyBytes}
 use Rattle.hf_base.specs.declared.limits.TheConstants.{BODY, PIECES}
 use Rattle.hf_base.specs.declared.loc.Extent.{Extent}
 use Rattle.hf_base.specs.Located.{Located, source_of}

@@ -43,9 +43,9 @@ bytes F idat ids locs links = map (bytes_of F idat (located_items ids locs links
 abbrev pub bare_items : List Located
 bare_items = located_items (2 ∷ 3 ∷ []) [] []
 
--- an item with three references, of which the second names no item
+-- an item with four references, of which the second and the fourth name no item
 abbrev pub by_reference : Located
-by_reference = located_item [] (located_in 1 (3 ∷ 9 ∷ 2 ∷ []) ∷ []) 1
+by_reference = located_item [] (located_in 1 (3 ∷ 9 ∷ 2 ∷ 1 ∷ []) ∷ []) 1
 
 -- item 3 lies in item 2, which lies in item 1
 abbrev pub chain_entries : List Loc

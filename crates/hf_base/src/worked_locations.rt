@@ -20,7 +20,7 @@ pub fn items_have_their_entries()
         ≡ record { id = 7; method = 2; dref = 3; base = 4; extents = extent_of 5 8 9 ∷ []; sources = [] } }
     ensures none { located_item (entry_from 8 2 3 4 (extent 0 1 ∷ []) ∷ []) [] 7
         ≡ record { id = 7; method = 0; dref = 0; base = 0; extents = []; sources = [] } }
-    ensures sources { sources_of 7 (located_in 7 (2 ∷ 99 ∷ []) ∷ located_in 6 (5 ∷ []) ∷ record { kind = DIMG; from = 7; to = 4 ∷ [] } ∷
+    ensures sources { sources_of 7 (located_in 7 (2 ∷ 99 ∷ []) ∷ located_in 6 (5 ∷ []) ∷ located_in 8 (6 ∷ []) ∷ record { kind = DIMG; from = 7; to = 4 ∷ [] } ∷
         located_in 7 (1 ∷ 2 ∷ []) ∷ [])
         ≡ 2 ∷ 99 ∷ 1 ∷ 2 ∷ [] }
     ensures joined { located_item [] (located_in 7 (2 ∷ []) ∷ located_in 7 (3 ∷ []) ∷ []) 7
@@ -34,7 +34,8 @@ pub fn an_index_counts_from_1()
     ensures one { source_of bare_items by_reference (extent_of 1 0 1) ≡ Some (located_item [] [] 3) }
     ensures no_item { source_of bare_items by_reference (extent_of 2 0 1) ≡ None }
     ensures last { source_of bare_items by_reference (extent_of 3 0 1) ≡ Some (located_item [] [] 2) }
-    ensures past { source_of bare_items by_reference (extent_of 4 0 1) ≡ None }
+    ensures lower { source_of bare_items by_reference (extent_of 4 0 1) ≡ None }
+    ensures past { source_of bare_items by_reference (extent_of 5 0 1) ≡ None }
     ensures far { source_of bare_items by_reference (extent_of 18446744073709551615 0 1) ≡ None }
 {}
 

@@ -32,17 +32,20 @@ later_part : (q b : List ℕ) (o : Option (List ℕ)) → option_map (λ (rest :
 later_part q b None e = absurd (cc)
 later_part q b (Some r) e = (r, refl, cc)
 
-first_part : (o : Option (List ℕ)) (ps : List (Option (List ℕ))) (b : List ℕ) → joined_pieces (o ∷ ps) ≡ Some b → (q : List ℕ) × (r : List ℕ) × (o ≡ Some q) × (joined_pieces ps ≡ Some r) × (q ++ r ≡ b)
+first_part : (o : Option (List ℕ)) (ps : List (Option (List ℕ))) (b : List ℕ) → joined_pieces (o ∷ ps) ≡ Some b
+    → (q : List ℕ) × (r : List ℕ) × (o ≡ Some q) × (joined_pieces ps ≡ Some r) × (q ++ r ≡ b)
 first_part None ps b e = absurd (cc)
 first_part (Some q) ps b e = let rest = later_part q b (joined_pieces ps) e in (q, rest.0, refl, rest.1, rest.2)
 
-with_first : (o : Option (List ℕ)) (ps : List (Option (List ℕ))) (q r : List ℕ) → o ≡ Some q → joined_pieces ps ≡ Some r → joined_pieces (o ∷ ps) ≡ Some (q ++ r)
+with_first : (o : Option (List ℕ)) (ps : List (Option (List ℕ))) (q r : List ℕ) → o ≡ Some q → joined_pieces ps ≡ Some r
+    → joined_pieces (o ∷ ps) ≡ Some (q ++ r)
 with_first o ps q r e f = rw (e, f) refl
 
 same_list : (a b : List ℕ) → Some a ≡ Some b → a ≡ b
 same_list a b e = cc
 
-pub joined_step : (f : Extent → Option (List ℕ)) (es : List Extent) (i : ℕ) (d : Extent) (b front : List ℕ) → joined_pieces (map f es) ≡ Some b → i < length es → joined_pieces (map f (take i es)) ≡ Some front
+pub joined_step : (f : Extent → Option (List ℕ)) (es : List Extent) (i : ℕ) (d : Extent) (b front : List ℕ) → joined_pieces (map f es) ≡ Some b
+    → i < length es → joined_pieces (map f (take i es)) ≡ Some front
     → (p : List ℕ) × (f (get_or es i d) ≡ Some p) × (joined_pieces (map f (take (i + 1) es)) ≡ Some (front ++ p)) × (length front + length p ≤ length b)
 joined_step f [] i d b front whole less so_far = absurd (omega arith)
 joined_step f (e ∷ es) zero d b front whole less so_far =
@@ -56,7 +59,8 @@ joined_step f (e ∷ es) (suc i) d b front whole less so_far =
     let same : s.0 ≡ w.0 = same_list s.0 w.0 (sym s.2 ∙ w.2) in
     let rest = joined_step f es i d w.1 s.1 w.3 (omega arith) s.3 in
     let z : suc i + 1 ≡ suc (i + 1) = omega arith in
-    let joined : joined_pieces (map f (e ∷ take (i + 1) es)) ≡ Some (s.0 ++ (s.1 ++ rest.0)) = with_first (f e) (map f (take (i + 1) es)) s.0 (s.1 ++ rest.0) s.2 rest.2 in (
+    let joined : joined_pieces (map f (e ∷ take (i + 1) es)) ≡ Some (s.0 ++ (s.1 ++ rest.0)) =
+    with_first (f e) (map f (take (i + 1) es)) s.0 (s.1 ++ rest.0) s.2 rest.2 in (
       rest.0,
       rest.1,
       rw z (joined ∙ ap (λ (l : List ℕ). Some l) (sym (append_assoc s.0 s.1 rest.0) ∙ ap (λ (l : List ℕ). l ++ rest.0) s.4)),
@@ -64,11 +68,13 @@ joined_step f (e ∷ es) (suc i) d b front whole less so_far =
     )
 
 -- what the next extent asks of the pieces so far
-pub piece_there : (f : Extent → Option (List ℕ)) (es : List Extent) (i : ℕ) (d : Extent) (front : List ℕ) (o : Option (List ℕ)) → joined_pieces (map f es) ≡ o → IsSome o → i < length es → joined_pieces (map f (take i es)) ≡ Some front → IsSome (f (get_or es i d))
+pub piece_there : (f : Extent → Option (List ℕ)) (es : List Extent) (i : ℕ) (d : Extent) (front : List ℕ) (o : Option (List ℕ))
+    → joined_pieces (map f es) ≡ o → IsSome o → i < length es → joined_pieces (map f (take i es)) ≡ Some front → IsSome (f (get_or es i d))
 piece_there f es i d front None e some less so_far = absurd (false≢true some)
 piece_there f es i d front (Some b) e some less so_far = let s = joined_step f es i d b front e less so_far in rw s.1 refl
 
-pub piece_room : (f : Extent → Option (List ℕ)) (es : List Extent) (i : ℕ) (d : Extent) (front : List ℕ) (o : Option (List ℕ)) (most : ℕ) → joined_pieces (map f es) ≡ o → IsSome o → ForSome o (λ b. length b ≤ most) → i < length es → joined_pieces (map f (take i es)) ≡ Some front
+pub piece_room : (f : Extent → Option (List ℕ)) (es : List Extent) (i : ℕ) (d : Extent) (front : List ℕ) (o : Option (List ℕ)) (most : ℕ)
+    → joined_pieces (map f es) ≡ o → IsSome o → ForSome o (λ b. length b ≤ most) → i < length es → joined_pieces (map f (take i es)) ≡ Some front
     → ForSome (f (get_or es i d)) (λ p. length front + length p ≤ most)
 piece_room f es i d front None most e some fits less so_far = absurd (false≢true some)
 piece_room f es i d front (Some b) most e some fits less so_far =
@@ -76,7 +82,8 @@ piece_room f es i d front (Some b) most e some fits less so_far =
     let fits_b : length b ≤ most = fits b refl in
     λ p found. let same : s.0 ≡ p = same_list s.0 p (sym s.1 ∙ found) in omega (arith, s.3, fits_b, ap length same)
 
-pub pieces_more : (f : Extent → Option (List ℕ)) (es : List Extent) (i : ℕ) (d : Extent) (front next : List ℕ) (o : Option (List ℕ)) → joined_pieces (map f es) ≡ o → IsSome o → i < length es → joined_pieces (map f (take i es)) ≡ Some front
+pub pieces_more : (f : Extent → Option (List ℕ)) (es : List Extent) (i : ℕ) (d : Extent) (front next : List ℕ) (o : Option (List ℕ))
+    → joined_pieces (map f es) ≡ o → IsSome o → i < length es → joined_pieces (map f (take i es)) ≡ Some front
     → ((p : List ℕ) → f (get_or es i d) ≡ Some p → next ≡ front ++ p) → joined_pieces (map f (take (i + 1) es)) ≡ Some next
 pieces_more f es i d front next None e some less so_far added = absurd (false≢true some)
 pieces_more f es i d front next (Some b) e some less so_far added =
@@ -89,7 +96,9 @@ pieces_more f es i d front next (Some b) e some less so_far added =
 pub record KnowsBytes (value : Located → Option (List ℕ)) (items : List Located) (order : List ℕ) (bodies : List (List ℕ)) : Type 0 where
   pub known : (k : ℕ) (r : Located) → IsIn k order → slice_get items k ≡ Some r → slice_get bodies k ≡ value r
 
-pub body_known : (F : List ℕ) (idat : Option (List ℕ)) (ids : List ℕ) (items : List Located) (order : List ℕ) (bodies : List (List ℕ)) → AreNamed ids items → IsOrder (length ids) (links_from ids 0 items) order → locations_fault F idat items ≡ Ok tt → (i : ℕ) (r : Located) → i < length order → slice_get items (get_or order i 0) ≡ Some r
+pub body_known : (F : List ℕ) (idat : Option (List ℕ)) (ids : List ℕ) (items : List Located) (order : List ℕ) (bodies : List (List ℕ)) → AreNamed ids items
+    → IsOrder (length ids) (links_from ids 0 items) order → locations_fault F idat items ≡ Ok tt → (i : ℕ) (r : Located) → i < length order
+    → slice_get items (get_or order i 0) ≡ Some r
     → KnowsBytes (bytes_of F idat items) items (take i order) bodies → bytes_by F idat ids bodies r ≡ bytes_of F idat items r
 body_known F idat ids items order bodies named ordered fine i r less at knows =
     ap joined_pieces (map_same (piece_by F idat ids bodies r) (piece_in F idat items (bytes_of F idat items) r) r.extents
@@ -109,7 +118,8 @@ within_limit limit total fine = elim (cases_lt limit total) [
   | inr within ↦ within
 ]
 
-pub small_item : (F : List ℕ) (idat : Option (List ℕ)) (items : List Located) (r : Located) → locations_fault F idat items ≡ Ok tt → IsIn r items → size_of (length F) (inner_size idat) items r ≤ BODY
+pub small_item : (F : List ℕ) (idat : Option (List ℕ)) (items : List Located) (r : Located) → locations_fault F idat items ≡ Ok tt → IsIn r items
+    → size_of (length F) (inner_size idat) items r ≤ BODY
 unfolding too_many_bytes_fault
 small_item F idat items r fine is =
     let all : sum (map (size_of (length F) (inner_size idat) items) items) ≤ BODY = within_limit BODY _ (parts_fine F idat items fine).small in
@@ -121,8 +131,11 @@ some_is o b e = rw e refl
 room_is : (o : Option (List ℕ)) (b : List ℕ) (most : ℕ) → o ≡ Some b → length b ≤ most → ForSome o (λ x. length x ≤ most)
 room_is o b most e few = λ x f. let same : b ≡ x = same_list b x (sym e ∙ f) in omega (arith, few, ap length same)
 
-pub body_there : (F : List ℕ) (idat : Option (List ℕ)) (ids : List ℕ) (items : List Located) (order : List ℕ) (bodies : List (List ℕ)) → AreNamed ids items → IsOrder (length ids) (links_from ids 0 items) order → locations_fault F idat items ≡ Ok tt → (i : ℕ) (r : Located) → i < length order → slice_get items (get_or order i 0) ≡ Some r
-    → KnowsBytes (bytes_of F idat items) items (take i order) bodies → IsSome (bytes_by F idat ids bodies r) × ForSome (bytes_by F idat ids bodies r) (λ b. length b ≤ 2 ^ 62)
+pub body_there : (F : List ℕ) (idat : Option (List ℕ)) (ids : List ℕ) (items : List Located) (order : List ℕ) (bodies : List (List ℕ)) → AreNamed ids items
+    → IsOrder (length ids) (links_from ids 0 items) order → locations_fault F idat items ≡ Ok tt → (i : ℕ) (r : Located) → i < length order
+    → slice_get items (get_or order i 0) ≡ Some r
+    → KnowsBytes (bytes_of F idat items) items (take i order) bodies
+    → IsSome (bytes_by F idat ids bodies r) × ForSome (bytes_by F idat ids bodies r) (λ b. length b ≤ 2 ^ 62)
 body_there F idat ids items order bodies named ordered fine i r less at knows =
     let is = slice_in items (get_or order i 0) r at in
     let b = bytes_there F idat items r fine is in
@@ -151,7 +164,8 @@ same_item : (a b : Located) → Some a ≡ Some b → a ≡ b
 same_item a b e = cc
 
 pub bytes_more : (value : Located → Option (List ℕ)) (items : List Located) (order : List ℕ) (bodies : List (List (List ℕ))) (i : ℕ) (made : List (List ℕ)) (now : Located) → KnowsBytes value items (take i order) (map joined bodies) → i < length order → get_or order i 0 < length bodies
-    → slice_get items (get_or order i 0) ≡ Some now → value now ≡ Some (joined made) → KnowsBytes value items (take (i + 1) order) (map joined (set bodies (get_or order i 0) made))
+    → slice_get items (get_or order i 0) ≡ Some now → value now ≡ Some (joined made)
+    → KnowsBytes value items (take (i + 1) order) (map joined (set bodies (get_or order i 0) made))
 bytes_more value items order bodies i made now knows less within at is = record {
   known = λ k r has there. elim (cases_Bool (k == get_or order i 0)) [
     | inl same ↦ (
@@ -170,12 +184,15 @@ bytes_more value items order bodies i made now knows less within at is = record 
   ];
 }
 
-all_known : (value : Located → Option (List ℕ)) (items : List Located) (bodies : List (List (List ℕ))) → length bodies ≡ length items → ((k : ℕ) (r : Located) → slice_get items k ≡ Some r → slice_get (map joined bodies) k ≡ value r) → map value items ≡ map (λ (p : List (List ℕ)). Some (joined p)) bodies
+all_known : (value : Located → Option (List ℕ)) (items : List Located) (bodies : List (List (List ℕ))) → length bodies ≡ length items
+    → ((k : ℕ) (r : Located) → slice_get items k ≡ Some r → slice_get (map joined bodies) k ≡ value r)
+    → map value items ≡ map (λ (p : List (List ℕ)). Some (joined p)) bodies
 all_known value [] [] same each = refl
 all_known value [] (b ∷ bs) same each = absurd (omega arith)
 all_known value (r ∷ rs) [] same each = absurd (omega arith)
 all_known value (r ∷ rs) (b ∷ bs) same each =
-    ap (λ (o : Option (List ℕ)). o ∷ map value rs) (sym (each zero r refl)) ∙ ap (λ (os : List (Option (List ℕ))). Some (joined b) ∷ os) (all_known value rs bs (omega arith) (λ k s at. each (suc k) s at))
+    ap (λ (o : Option (List ℕ)). o ∷ map value rs) (sym (each zero r refl))
+    ∙ ap (λ (os : List (Option (List ℕ))). Some (joined b) ∷ os) (all_known value rs bs (omega arith) (λ k s at. each (suc k) s at))
 
 whole_list : (xs : List ℕ) (n : ℕ) → length xs ≤ n → take n xs ≡ xs
 whole_list [] zero all = refl
@@ -183,8 +200,11 @@ whole_list [] (suc n) all = refl
 whole_list (x ∷ xs) zero all = absurd (omega arith)
 whole_list (x ∷ xs) (suc n) all = ap (λ (l : List ℕ). x ∷ l) (whole_list xs n (omega arith))
 
-pub bytes_all : (F : List ℕ) (idat : Option (List ℕ)) (ids : List ℕ) (items : List Located) (order : List ℕ) (bodies : List (List (List ℕ))) (n : ℕ) → AreNamed ids items → IsOrder (length ids) (links_from ids 0 items) order → locations_fault F idat items ≡ Ok tt → length order ≤ n → length bodies ≡ length ids
-    → KnowsBytes (bytes_of F idat items) items (take n order) (map joined bodies) → map (bytes_of F idat items) items ≡ map (λ (p : List (List ℕ)). Some (joined p)) bodies
+pub bytes_all : (F : List ℕ) (idat : Option (List ℕ)) (ids : List ℕ) (items : List Located) (order : List ℕ) (bodies : List (List (List ℕ))) (n : ℕ)
+    → AreNamed ids items → IsOrder (length ids) (links_from ids 0 items) order → locations_fault F idat items ≡ Ok tt → length order ≤ n
+    → length bodies ≡ length ids
+    → KnowsBytes (bytes_of F idat items) items (take n order) (map joined bodies)
+    → map (bytes_of F idat items) items ≡ map (λ (p : List (List ℕ)). Some (joined p)) bodies
 bytes_all F idat ids items order bodies n named ordered fine all count knows =
     all_known (bytes_of F idat items) items bodies (count ∙ sym (length_at ids items named.at))
     (λ k r at.
@@ -194,5 +214,6 @@ bytes_all F idat ids items order bodies n named ordered fine all count knows =
 pub bytes_none : (value : Located → Option (List ℕ)) (items : List Located) (bodies : List (List ℕ)) → KnowsBytes value items [] bodies
 bytes_none value items bodies = record { known = λ k r is at. absurd is }
 
-pub named_items : (F : List ℕ) (idat : Option (List ℕ)) (ids : List ℕ) (items : List Located) → AreAt ids items → locations_fault F idat items ≡ Ok tt → AreNamed ids items
+pub named_items : (F : List ℕ) (idat : Option (List ℕ)) (ids : List ℕ) (items : List Located) → AreAt ids items → locations_fault F idat items ≡ Ok tt
+    → AreNamed ids items
 named_items F idat ids items at fine = record { at = at; named = (parts_fine F idat items fine).named }

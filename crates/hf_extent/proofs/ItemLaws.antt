@@ -35,14 +35,16 @@ same_maps : (f g : ℕ → Stated) (ids : List ℕ) → ((k : ℕ) → k < lengt
 same_maps f g [] each = refl
 same_maps f g (a ∷ ks) each = ap (λ (r : Stated). r ∷ map f ks) (each zero (omega arith)) ∙ ap (λ (l : List Stated). g a ∷ l) (same_maps f g ks (λ k less. each (suc k) (omega arith)))
 
-set_one : (f g : ℕ → Stated) (ids : List ℕ) (i : ℕ) (y : Stated) → i < length ids → y ≡ g (get_or ids i 0) → ((k : ℕ) → k < length ids → (k ≡ i → ⊥) → f (get_or ids k 0) ≡ g (get_or ids k 0)) → set (map f ids) i y ≡ map g ids
+set_one : (f g : ℕ → Stated) (ids : List ℕ) (i : ℕ) (y : Stated) → i < length ids → y ≡ g (get_or ids i 0)
+    → ((k : ℕ) → k < length ids → (k ≡ i → ⊥) → f (get_or ids k 0) ≡ g (get_or ids k 0)) → set (map f ids) i y ≡ map g ids
 set_one f g [] i y less is each = absurd (omega arith)
 set_one f g (a ∷ ks) zero y less is each = ap (λ (r : Stated). r ∷ map f ks) is ∙ ap (λ (l : List Stated). g a ∷ l) (same_maps f g ks (λ k few. each (suc k) (omega arith) (λ e. absurd (omega (arith, e)))))
 set_one f g (a ∷ ks) (suc i) y less is each =
     ap (λ (r : Stated). r ∷ set (map f ks) i y) (each zero (omega arith) (λ e. absurd (omega (arith, e))))
     ∙ ap (λ (l : List Stated). g a ∷ l) (set_one f g ks i y (omega arith) is (λ k few other. each (suc k) (omega arith) (λ e. other (omega (arith, e)))))
 
-mapped_at : (f : ℕ → Stated) (items : List Located) (ids : List ℕ) (i : ℕ) (x : Located) → items_seen items ≡ map f ids → i < length ids → x ≡ get_or items i x → i < length items → item_seen x ≡ f (get_or ids i 0)
+mapped_at : (f : ℕ → Stated) (items : List Located) (ids : List ℕ) (i : ℕ) (x : Located) → items_seen items ≡ map f ids → i < length ids
+    → x ≡ get_or items i x → i < length items → item_seen x ≡ f (get_or ids i 0)
 mapped_at f [] ids i x e less is within = absurd (omega arith)
 mapped_at f (r ∷ rs) [] i x e less is within = absurd (omega arith)
 mapped_at f (r ∷ rs) (a ∷ ks) zero x e less is within = let h : item_seen r ≡ f a = cc in ap item_seen is ∙ h
@@ -68,7 +70,8 @@ or_none (Some l) = refl
 
 unchanged_entry : (locs : List Loc) (l : Loc) (id : ℕ) → (l.id == id) ≡ false → loc_of id (locs ++ l ∷ []) ≡ loc_of id locs
 unchanged_entry locs l id other =
-    find-append (λ (x : Loc). x.id == id) locs (l ∷ []) ∙ (let none : find (λ (x : Loc). x.id == id) (l ∷ []) ≡ None = rw other refl in ap (option_or (loc_of id locs)) none) ∙ or_none (loc_of id locs)
+    find-append (λ (x : Loc). x.id == id) locs (l ∷ [])
+    ∙ (let none : find (λ (x : Loc). x.id == id) (l ∷ []) ≡ None = rw other refl in ap (option_or (loc_of id locs)) none) ∙ or_none (loc_of id locs)
 
 new_entry : (locs : List Loc) (l : Loc) (id : ℕ) → l.id ≡ id → loc_of l.id locs ≡ None → loc_of id (locs ++ l ∷ []) ≡ Some l
 new_entry locs l id same none =
@@ -76,8 +79,10 @@ new_entry locs l id same none =
     let before : loc_of id locs ≡ None = ap (λ n. loc_of n locs) (sym same) ∙ none in
     find-append (λ (x : Loc). x.id == id) locs (l ∷ []) ∙ rw (before, here) refl
 
-pub entry_more : (ids : List ℕ) (items : List Located) (locs : List Loc) (links : List RefBox) (l : Loc) (i : ℕ) (old new : Located) → Rises ◌<◌ ids → items_seen items ≡ located_items ids locs links → loc_of l.id locs ≡ None → Some i ≡ id_place ids l.id → i < length items → old ≡ get_or items i old
-    → item_seen new ≡ record (item_seen old) { method = l.method; dref = l.dref; base = l.base; extents = l.extents } → items_seen (set items i new) ≡ located_items ids (locs ++ l ∷ []) links
+pub entry_more : (ids : List ℕ) (items : List Located) (locs : List Loc) (links : List RefBox) (l : Loc) (i : ℕ) (old new : Located) → Rises ◌<◌ ids
+    → items_seen items ≡ located_items ids locs links → loc_of l.id locs ≡ None → Some i ≡ id_place ids l.id → i < length items → old ≡ get_or items i old
+    → item_seen new ≡ record (item_seen old) { method = l.method; dref = l.dref; base = l.base; extents = l.extents }
+    → items_seen (set items i new) ≡ located_items ids (locs ++ l ∷ []) links
 entry_more ids items locs links l i old new rising so_far none place within is e =
     let at = id_at_place ids l.id i place in
     let was : item_seen old ≡ located_item locs links (get_or ids i 0) = mapped_at (located_item locs links) items ids i old so_far at.0 is within in
@@ -90,7 +95,8 @@ entry_more ids items locs links l i old new rising so_far none place within is e
     ∙ set_one (located_item locs links) (located_item (locs ++ l ∷ []) links) ids i (item_seen new) at.0 became
     (λ k less other. ap (λ (o : Option Loc). located_at (get_or ids k 0) o (sources_of (get_or ids k 0) links)) (sym (unchanged_entry locs l (get_or ids k 0) (other_id ids l.id k (Some i) rising place less (λ f. other (sym (some_number i k f)))))))
 
-pub entry_nowhere : (ids : List ℕ) (items : List Located) (locs : List Loc) (links : List RefBox) (l : Loc) → Rises ◌<◌ ids → items_seen items ≡ located_items ids locs links → None ≡ id_place ids l.id → items_seen items ≡ located_items ids (locs ++ l ∷ []) links
+pub entry_nowhere : (ids : List ℕ) (items : List Located) (locs : List Loc) (links : List RefBox) (l : Loc) → Rises ◌<◌ ids
+    → items_seen items ≡ located_items ids locs links → None ≡ id_place ids l.id → items_seen items ≡ located_items ids (locs ++ l ∷ []) links
 entry_nowhere ids items locs links l rising so_far place =
     so_far ∙ same_maps (located_item locs links) (located_item (locs ++ l ∷ []) links) ids
     (λ k less. ap (λ (o : Option Loc). located_at (get_or ids k 0) o (sources_of (get_or ids k 0) links)) (sym (unchanged_entry locs l (get_or ids k 0) (other_id ids l.id k None rising place less (λ f. absurd (cc))))))
@@ -112,11 +118,14 @@ second_fails : (a b : Bool) → b ≡ false → (a && b) ≡ false
 second_fails true b e = e
 second_fails false b e = refl
 
-grown : (id : ℕ) (o : Option Loc) (sources to : List ℕ) → record (located_at id o sources) { sources = (located_at id o sources).sources ++ to } ≡ located_at id o (sources ++ to)
+grown : (id : ℕ) (o : Option Loc) (sources to : List ℕ)
+    → record (located_at id o sources) { sources = (located_at id o sources).sources ++ to } ≡ located_at id o (sources ++ to)
 grown id None sources to = refl
 grown id (Some l) sources to = refl
 
-pub link_more : (ids : List ℕ) (items : List Located) (locs : List Loc) (links : List RefBox) (b : RefBox) (i : ℕ) (old new : Located) → Rises ◌<◌ ids → items_seen items ≡ located_items ids locs links → bytes_eq b.kind.0 ILOC.0 ≡ true → Some i ≡ id_place ids b.from → i < length items → old ≡ get_or items i old
+pub link_more : (ids : List ℕ) (items : List Located) (locs : List Loc) (links : List RefBox) (b : RefBox) (i : ℕ) (old new : Located) → Rises ◌<◌ ids
+    → items_seen items ≡ located_items ids locs links → bytes_eq b.kind.0 ILOC.0 ≡ true → Some i ≡ id_place ids b.from → i < length items
+    → old ≡ get_or items i old
     → item_seen new ≡ record (item_seen old) { sources = old.sources ++ b.to } → items_seen (set items i new) ≡ located_items ids locs (links ++ b ∷ [])
 link_more ids items locs links b i old new rising so_far kind place within is e =
     let at = id_at_place ids b.from i place in
@@ -124,19 +133,22 @@ link_more ids items locs links b i old new rising so_far kind place within is e 
     let from : (b.from == get_or ids i 0) ≡ true = grind (arith, nat_tests, at.1) in
     let here : locates (get_or ids i 0) b ≡ true = rw (kind, from) refl in
     let became : item_seen new ≡ located_item locs (links ++ b ∷ []) (get_or ids i 0) =
-    e ∙ ap (λ (r : Stated). record r { sources = r.sources ++ b.to }) was ∙ grown (get_or ids i 0) (loc_of (get_or ids i 0) locs) (sources_of (get_or ids i 0) links) b.to
+    e ∙ ap (λ (r : Stated). record r { sources = r.sources ++ b.to }) was
+    ∙ grown (get_or ids i 0) (loc_of (get_or ids i 0) locs) (sources_of (get_or ids i 0) links) b.to
     ∙ ap (λ (l : List ℕ). located_at (get_or ids i 0) (loc_of (get_or ids i 0) locs) l) (sym (source_more (get_or ids i 0) links b here))
     in
     seen_set items i new ∙ ap (λ (rs : List Stated). set rs i (item_seen new)) so_far
     ∙ set_one (located_item locs links) (located_item locs (links ++ b ∷ [])) ids i (item_seen new) at.0 became
     (λ k less other. ap (λ (l : List ℕ). located_at (get_or ids k 0) (loc_of (get_or ids k 0) locs) l) (sym (source_same (get_or ids k 0) links b (second_fails (bytes_eq b.kind.0 ILOC.0) _ (other_id ids b.from k (Some i) rising place less (λ f. other (sym (some_number i k f))))))))
 
-pub link_nowhere : (ids : List ℕ) (items : List Located) (locs : List Loc) (links : List RefBox) (b : RefBox) → Rises ◌<◌ ids → items_seen items ≡ located_items ids locs links → None ≡ id_place ids b.from → items_seen items ≡ located_items ids locs (links ++ b ∷ [])
+pub link_nowhere : (ids : List ℕ) (items : List Located) (locs : List Loc) (links : List RefBox) (b : RefBox) → Rises ◌<◌ ids
+    → items_seen items ≡ located_items ids locs links → None ≡ id_place ids b.from → items_seen items ≡ located_items ids locs (links ++ b ∷ [])
 link_nowhere ids items locs links b rising so_far place =
     so_far ∙ same_maps (located_item locs links) (located_item locs (links ++ b ∷ [])) ids
     (λ k less. ap (λ (l : List ℕ). located_at (get_or ids k 0) (loc_of (get_or ids k 0) locs) l) (sym (source_same (get_or ids k 0) links b (second_fails (bytes_eq b.kind.0 ILOC.0) _ (other_id ids b.from k None rising place less (λ f. absurd (cc)))))))
 
-pub link_of_another_kind : (ids : List ℕ) (items : List Located) (locs : List Loc) (links : List RefBox) (b : RefBox) → items_seen items ≡ located_items ids locs links → bytes_eq b.kind.0 ILOC.0 ≡ false → items_seen items ≡ located_items ids locs (links ++ b ∷ [])
+pub link_of_another_kind : (ids : List ℕ) (items : List Located) (locs : List Loc) (links : List RefBox) (b : RefBox)
+    → items_seen items ≡ located_items ids locs links → bytes_eq b.kind.0 ILOC.0 ≡ false → items_seen items ≡ located_items ids locs (links ++ b ∷ [])
 link_of_another_kind ids items locs links b so_far kind =
     so_far ∙ same_maps (located_item locs links) (located_item locs (links ++ b ∷ [])) ids
     (λ k less. ap (λ (l : List ℕ). located_at (get_or ids k 0) (loc_of (get_or ids k 0) locs) l) (sym (source_same (get_or ids k 0) links b (let f : locates (get_or ids k 0) b ≡ false = rw kind refl in f))))
@@ -182,7 +194,8 @@ none_before (x ∷ xs) (suc i) l distinct less is =
       | inr other ↦ (let e : loc_of l.id (x ∷ take i xs) ≡ loc_of l.id (take i xs) = rw other refl in e ∙ rest)
     ]
 
-pub loc_taken : (ids : List ℕ) (items : List Located) (locs : List Loc) (i : ℕ) (l : Loc) → items_seen items ≡ located_items ids (take i locs ++ l ∷ []) [] → i < length locs → l ≡ get_or locs i l → items_seen items ≡ located_items ids (take (i + 1) locs) []
+pub loc_taken : (ids : List ℕ) (items : List Located) (locs : List Loc) (i : ℕ) (l : Loc) → items_seen items ≡ located_items ids (take i locs ++ l ∷ []) []
+    → i < length locs → l ≡ get_or locs i l → items_seen items ≡ located_items ids (take (i + 1) locs) []
 loc_taken ids items locs i l e less is =
     e ∙ ap (λ (ls : List Loc). located_items ids ls []) (ap (λ (x : Loc). take i locs ++ x ∷ []) is ∙ sym (take_more locs i l less))
 

@@ -15,7 +15,8 @@ go (Some b) bs = refl
 cons_or_not : {A B : Type 0} (h : A → Option B) (x : A) (xs : List A) → filter_map h (x ∷ xs) ≡ option_to_list (h x) ++ filter_map h xs
 cons_or_not h x xs = go (h x) (filter_map h xs)
 
-mapped_more : {A B : Type 0} (h : A → Option B) (xs : List A) (i : ℕ) (d : A) → i < length xs → filter_map h (take (i + 1) xs) ≡ filter_map h (take i xs) ++ option_to_list (h (get_or xs i d))
+mapped_more : {A B : Type 0} (h : A → Option B) (xs : List A) (i : ℕ) (d : A) → i < length xs
+    → filter_map h (take (i + 1) xs) ≡ filter_map h (take i xs) ++ option_to_list (h (get_or xs i d))
 mapped_more h [] i d less = absurd (omega arith)
 mapped_more h (x ∷ xs) zero d less = cons_or_not h x [] ∙ append-nil (option_to_list (h x))
 mapped_more h (x ∷ xs) (suc i) d less =
@@ -25,12 +26,15 @@ mapped_more h (x ∷ xs) (suc i) d less =
     ∙ sym (append_assoc (option_to_list (h x)) (filter_map h (take i xs)) (option_to_list (h (get_or xs i d))))
     ∙ ap (λ l. l ++ option_to_list (h (get_or xs i d))) (sym (cons_or_not h x (take i xs))))
 
-pub pairs_more : (h : Extent → Option (ℕ × ℕ)) (es : List Extent) (i : ℕ) (d : Extent) (front pairs next : List (ℕ × ℕ)) → pairs ≡ front ++ filter_map h (take i es) → i < length es
+pub pairs_more : (h : Extent → Option (ℕ × ℕ)) (es : List Extent) (i : ℕ) (d : Extent) (front pairs next : List (ℕ × ℕ))
+    → pairs ≡ front ++ filter_map h (take i es) → i < length es
     → next ≡ pairs ++ option_to_list (h (get_or es i d)) → next ≡ front ++ filter_map h (take (i + 1) es)
 pairs_more h es i d front pairs next so_far less e =
-    e ∙ ap (λ l. l ++ option_to_list (h (get_or es i d))) so_far ∙ append_assoc front (filter_map h (take i es)) (option_to_list (h (get_or es i d))) ∙ ap (λ l. front ++ l) (sym (mapped_more h es i d less))
+    e ∙ ap (λ l. l ++ option_to_list (h (get_or es i d))) so_far ∙ append_assoc front (filter_map h (take i es)) (option_to_list (h (get_or es i d)))
+    ∙ ap (λ l. front ++ l) (sym (mapped_more h es i d less))
 
-pub links_more : (ids : List ℕ) (n : ℕ) (items : List Located) (i : ℕ) (x : Located) → i < length items → x ≡ get_or items i x → links_from ids n (items_seen (take (i + 1) items)) ≡ links_from ids n (items_seen (take i items)) ++ item_links ids (n + i) (item_seen x)
+pub links_more : (ids : List ℕ) (n : ℕ) (items : List Located) (i : ℕ) (x : Located) → i < length items → x ≡ get_or items i x
+    → links_from ids n (items_seen (take (i + 1) items)) ≡ links_from ids n (items_seen (take i items)) ++ item_links ids (n + i) (item_seen x)
 unfolding links_from
 links_more ids n [] i x less is = absurd (omega arith)
 links_more ids n (r ∷ rs) zero x less is =
@@ -42,8 +46,10 @@ links_more ids n (r ∷ rs) (suc i) x less is =
     rw (e, f) (ap (λ l. item_links ids n (item_seen r) ++ l) (links_more ids (suc n) rs i x (omega arith) is)
     ∙ sym (append_assoc (item_links ids n (item_seen r)) (links_from ids (suc n) (items_seen (take i rs))) (item_links ids (suc n + i) (item_seen x))))
 
-pub links_step : (ids : List ℕ) (items : List Located) (i : ℕ) (x : Located) (pairs next : List (ℕ × ℕ)) → pairs ≡ links_from ids 0 (items_seen (take i items)) → i < length items → x ≡ get_or items i x
+pub links_step : (ids : List ℕ) (items : List Located) (i : ℕ) (x : Located) (pairs next : List (ℕ × ℕ))
+    → pairs ≡ links_from ids 0 (items_seen (take i items)) → i < length items → x ≡ get_or items i x
     → next ≡ pairs ++ item_links ids i (item_seen x) → next ≡ links_from ids 0 (items_seen (take (i + 1) items))
 links_step ids items i x pairs next so_far less is e =
     let z : 0 + i ≡ i = omega arith in
-    e ∙ ap (λ l. l ++ item_links ids i (item_seen x)) so_far ∙ ap (λ n. links_from ids 0 (items_seen (take i items)) ++ item_links ids n (item_seen x)) (sym z) ∙ sym (links_more ids 0 items i x less is)
+    e ∙ ap (λ l. l ++ item_links ids i (item_seen x)) so_far
+    ∙ ap (λ n. links_from ids 0 (items_seen (take i items)) ++ item_links ids n (item_seen x)) (sym z) ∙ sym (links_more ids 0 items i x less is)

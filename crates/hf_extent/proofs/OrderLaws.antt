@@ -65,12 +65,15 @@ in_before xs i k less is other = elim (in_joined k (take i xs) (get_or xs i 0 �
 
 -- ---- links
 
-item_link : (ids : List ℕ) (a : ℕ) (r : Located) (e : Extent) (k : ℕ) → (r.method == 2) ≡ true → IsIn e r.extents → place_of ids r e ≡ Some k → IsIn (a, k) (item_links ids a r)
+item_link : (ids : List ℕ) (a : ℕ) (r : Located) (e : Extent) (k : ℕ) → (r.method == 2) ≡ true → IsIn e r.extents → place_of ids r e ≡ Some k
+    → IsIn (a, k) (item_links ids a r)
 item_link ids a r e k two is found =
-    let listed : IsIn (a, k) (filter_map (λ (x : Extent). option_map (λ (j : ℕ). (a, j)) (place_of ids r x)) r.extents) = is_mapped (λ (x : Extent). option_map (λ (j : ℕ). (a, j)) (place_of ids r x)) r.extents e (a, k) is (rw found refl) in
+    let listed : IsIn (a, k) (filter_map (λ (x : Extent). option_map (λ (j : ℕ). (a, j)) (place_of ids r x)) r.extents) =
+    is_mapped (λ (x : Extent). option_map (λ (j : ℕ). (a, j)) (place_of ids r x)) r.extents e (a, k) is (rw found refl) in
     rw two listed
 
-pub is_linked : (ids : List ℕ) (n : ℕ) (items : List Located) (i : ℕ) (r : Located) (e : Extent) (k : ℕ) → slice_get items i ≡ Some r → (r.method == 2) ≡ true → IsIn e r.extents → place_of ids r e ≡ Some k → IsIn (n + i, k) (links_from ids n items)
+pub is_linked : (ids : List ℕ) (n : ℕ) (items : List Located) (i : ℕ) (r : Located) (e : Extent) (k : ℕ) → slice_get items i ≡ Some r
+    → (r.method == 2) ≡ true → IsIn e r.extents → place_of ids r e ≡ Some k → IsIn (n + i, k) (links_from ids n items)
 unfolding links_from
 is_linked ids n [] i r e k at two is found = absurd (cc)
 is_linked ids n (x ∷ xs) zero r e k at two is found =
@@ -95,7 +98,8 @@ pair_parts : (n a k : ℕ) (o : Option ℕ) → option_map {U = ℕ × ℕ} (λ 
 pair_parts n a k None e = absurd (cc)
 pair_parts n a k (Some j) e = let parts = some_pair_parts n a j k e in (sym parts.0, ap (λ (m : ℕ). Some m) parts.1)
 
-from_item : (ids : List ℕ) (n a k : ℕ) (r : Located) → IsIn (a, k) (item_links ids n r) → (a ≡ n) × ((r.method == 2) ≡ true) × ((e : Extent) × IsIn e r.extents × (place_of ids r e ≡ Some k))
+from_item : (ids : List ℕ) (n a k : ℕ) (r : Located) → IsIn (a, k) (item_links ids n r)
+    → (a ≡ n) × ((r.method == 2) ≡ true) × ((e : Extent) × IsIn e r.extents × (place_of ids r e ≡ Some k))
 from_item ids n a k r is = elim (cases_Bool (r.method == 2)) [
   | inl two ↦ (
       let listed : IsIn (a, k) (filter_map (λ (x : Extent). option_map (λ (j : ℕ). (n, j)) (place_of ids r x)) r.extents) = rw two at is in
@@ -122,7 +126,8 @@ link_from ids n (r ∷ rs) a k is = elim (in_joined (a, k) (item_links ids n r) 
 
 -- ---- where unfolding ends
 
-found_there : (items : List Located) (o : Option ℕ) (s : Located) → option_and_then (slice_get items) o ≡ Some s → (k : ℕ) × (o ≡ Some k) × (slice_get items k ≡ Some s)
+found_there : (items : List Located) (o : Option ℕ) (s : Located) → option_and_then (slice_get items) o ≡ Some s
+    → (k : ℕ) × (o ≡ Some k) × (slice_get items k ≡ Some s)
 found_there items None s e = absurd (cc)
 found_there items (Some k) s e = (k, refl, e)
 
@@ -156,18 +161,21 @@ slice_in (x ∷ xs) zero r e = inl (cc)
 slice_in (x ∷ xs) (suc i) r e = inr (slice_in xs i r e)
 
 -- an extent of method 2 has its source at a place
-pub source_at : (ids : List ℕ) (items : List Located) → AreNamed ids items → (i : ℕ) (r : Located) (e : Extent) → slice_get items i ≡ Some r → (r.method == 2) ≡ true → IsIn e r.extents
+pub source_at : (ids : List ℕ) (items : List Located) → AreNamed ids items → (i : ℕ) (r : Located) (e : Extent) → slice_get items i ≡ Some r
+    → (r.method == 2) ≡ true → IsIn e r.extents
     → (k : ℕ) × (s : Located) × (place_of ids r e ≡ Some k) × (slice_get items k ≡ Some s) × (source_of items r e ≡ Some s)
 unfolding bad_index_fault
 source_at ids items named i r e at two is =
     let bad : has_bad_index items r ≡ false = none_has (has_bad_index items) (λ id. BadIndex id) items r named.named (slice_in items i r at) in
-    let here : is_none (source_of items r e) ≡ false = any_not (λ (x : Extent). is_none (source_of items r x)) r.extents e (after_both (r.method == 2) (list_any (λ (x : Extent). is_none (source_of items r x)) r.extents) bad two) is in
+    let here : is_none (source_of items r e) ≡ false =
+    any_not (λ (x : Extent). is_none (source_of items r x)) r.extents e (after_both (r.method == 2) (list_any (λ (x : Extent). is_none (source_of items r x)) r.extents) bad two) is in
     let s = some_from (source_of items r e) here in
     let k = found_there items (place_of ids r e) s.0 (sym (source_found ids items r e named.at) ∙ s.1) in
     (k.0, s.0, k.1, k.2, s.1)
 
 -- before each place of an order stand those that it takes its bytes from
-pub known_before : (ids : List ℕ) (items : List Located) (order : List ℕ) → AreNamed ids items → IsOrder (length ids) (links_from ids 0 items) order → (i : ℕ) (r : Located) (e : Extent) → i < length order → slice_get items (get_or order i 0) ≡ Some r → (r.method == 2) ≡ true → IsIn e r.extents
+pub known_before : (ids : List ℕ) (items : List Located) (order : List ℕ) → AreNamed ids items → IsOrder (length ids) (links_from ids 0 items) order
+    → (i : ℕ) (r : Located) (e : Extent) → i < length order → slice_get items (get_or order i 0) ≡ Some r → (r.method == 2) ≡ true → IsIn e r.extents
     → (k : ℕ) × (s : Located) × (place_of ids r e ≡ Some k) × (slice_get items k ≡ Some s) × (source_of items r e ≡ Some s) × IsIn k (take i order)
 known_before ids items order named ordered i r e less at two is =
     let s = source_at ids items named (get_or order i 0) r e at two is in
@@ -175,7 +183,8 @@ known_before ids items order named ordered i r e less at two is =
     let link : IsIn (get_or order i 0, s.0) (links_from ids 0 items) = rw z at (is_linked ids 0 items (get_or order i 0) r e s.0 at two is s.2) in
     (s.0, s.1, s.2, s.3, s.4, ordered.earlier i less s.0 link)
 
-in_order_ends : (ids : List ℕ) (items : List Located) (order : List ℕ) → AreNamed ids items → IsOrder (length ids) (links_from ids 0 items) order → (n i : ℕ) (r : Located) → i < n → i < length order → slice_get items (get_or order i 0) ≡ Some r → over false (ends_in items) n r ≡ true
+in_order_ends : (ids : List ℕ) (items : List Located) (order : List ℕ) → AreNamed ids items → IsOrder (length ids) (links_from ids 0 items) order
+    → (n i : ℕ) (r : Located) → i < n → i < length order → slice_get items (get_or order i 0) ≡ Some r → over false (ends_in items) n r ≡ true
 unfolding over
 in_order_ends ids items order named ordered zero i r below less at = absurd (omega arith)
 in_order_ends ids items order named ordered (suc n) i r below less at =
@@ -191,7 +200,8 @@ in_order_ends ids items order named ordered (suc n) i r below less at =
       | inr other ↦ not_item r.method (told false (over false (ends_in items) n) (source_of items r e)) other
     ])
 
-outside_never_ends : (ids : List ℕ) (items : List Located) (order : List ℕ) → AreNamed ids items → IsOrder (length ids) (links_from ids 0 items) order → (n a : ℕ) (r : Located) → slice_get items a ≡ Some r → ¬ IsIn a order → over false (ends_in items) n r ≡ false
+outside_never_ends : (ids : List ℕ) (items : List Located) (order : List ℕ) → AreNamed ids items → IsOrder (length ids) (links_from ids 0 items) order
+    → (n a : ℕ) (r : Located) → slice_get items a ≡ Some r → ¬ IsIn a order → over false (ends_in items) n r ≡ false
 unfolding over
 outside_never_ends ids items order named ordered zero a r at out = refl
 outside_never_ends ids items order named ordered (suc n) a r at out =
@@ -204,7 +214,8 @@ outside_never_ends ids items order named ordered (suc n) a r at out =
     let is : IsIn link.2.extent r.extents = rw same at link.2.is in
     let s = source_at ids items named a r link.2.extent at two is in
     let place : s.0 ≡ other.0 = some_same s.0 other.0 (sym s.2 ∙ ap (λ (x : Located). place_of ids x link.2.extent) (sym same) ∙ link.2.found) in
-    let endless : over false (ends_in items) n s.1 ≡ false = outside_never_ends ids items order named ordered n s.0 s.1 s.3 (λ is_in. other.2 (subst (λ (k : ℕ). IsIn k order) place is_in)) in
+    let endless : over false (ends_in items) n s.1 ≡ false =
+    outside_never_ends ids items order named ordered n s.0 s.1 s.3 (λ is_in. other.2 (subst (λ (k : ℕ). IsIn k order) place is_in)) in
     all_fails (λ (e : Extent). by_method r.method true true (told false (over false (ends_in items) n) (source_of items r e))) r.extents link.2.extent is
     (in_item r.method true true _ two ∙ ap (told false (over false (ends_in items) n)) s.4 ∙ endless)
 
@@ -235,7 +246,8 @@ short_order count pairs order ordered = length-le_from_distinct_below order coun
     (λ q is. let i = in_at q order (has_member order q is) in let below : get_or order i.0 0 < count = ordered.within i.0 i.1 in omega (arith, i.2))
 
 -- an order has the places where unfolding ends
-pub in_order : (ids : List ℕ) (items : List Located) (order : List ℕ) → AreNamed ids items → IsOrder (length ids) (links_from ids 0 items) order → (a : ℕ) (r : Located) → slice_get items a ≡ Some r → IsIn a order → ends items r ≡ true
+pub in_order : (ids : List ℕ) (items : List Located) (order : List ℕ) → AreNamed ids items → IsOrder (length ids) (links_from ids 0 items) order
+    → (a : ℕ) (r : Located) → slice_get items a ≡ Some r → IsIn a order → ends items r ≡ true
 unfolding ends over
 in_order ids items order named ordered a r at is =
     let i = in_at a order is in
@@ -245,11 +257,13 @@ in_order ids items order named ordered a r at is =
     sym (stable false (ends_in items) items (ends_local items) (length order) (length order) (suc (length items)) r ending (omega arith) (omega arith)) ∙ ending
 
 -- and no others
-pub out_of_order : (ids : List ℕ) (items : List Located) (order : List ℕ) → AreNamed ids items → IsOrder (length ids) (links_from ids 0 items) order → (a : ℕ) (r : Located) → slice_get items a ≡ Some r → ¬ IsIn a order → ends items r ≡ false
+pub out_of_order : (ids : List ℕ) (items : List Located) (order : List ℕ) → AreNamed ids items → IsOrder (length ids) (links_from ids 0 items) order
+    → (a : ℕ) (r : Located) → slice_get items a ≡ Some r → ¬ IsIn a order → ends items r ≡ false
 unfolding ends over
 out_of_order ids items order named ordered a r at out = outside_never_ends ids items order named ordered (suc (length items)) a r at out
 
-pub ends_in_order : (ids : List ℕ) (items : List Located) (order : List ℕ) → AreNamed ids items → IsOrder (length ids) (links_from ids 0 items) order → (a : ℕ) (r : Located) → slice_get items a ≡ Some r → ends items r ≡ true → IsIn a order
+pub ends_in_order : (ids : List ℕ) (items : List Located) (order : List ℕ) → AreNamed ids items → IsOrder (length ids) (links_from ids 0 items) order
+    → (a : ℕ) (r : Located) → slice_get items a ≡ Some r → ends items r ≡ true → IsIn a order
 ends_in_order ids items order named ordered a r at ending = elim (decided a order) [
   | inl is ↦ is
   | inr out ↦ absurd (false≢true (sym (out_of_order ids items order named ordered a r at out) ∙ ending))

@@ -33,7 +33,8 @@ place_found ids id k rising found =
     in
     sym (at_length ids id k first found.0)
 
-pub place_missing : (ids : List ℕ) (id i : ℕ) → (i ≤ length ids) × ((k : ℕ) → k < i → get_or ids k 0 < id) × ((k : ℕ) → i ≤ k → k < length ids → id < get_or ids k 0) → None ≡ id_place ids id
+pub place_missing : (ids : List ℕ) (id i : ℕ)
+    → (i ≤ length ids) × ((k : ℕ) → k < i → get_or ids k 0 < id) × ((k : ℕ) → i ≤ k → k < length ids → id < get_or ids k 0) → None ≡ id_place ids id
 place_missing ids id i missing =
     let nowhere : position_or_len (λ x. x == id) ids ≡ length ids = position_or_len_is (λ x. x == id) ids (length ids) 0 (omega arith)
     (λ j less. other_number (get_or ids j 0) id (λ same. elim (cases_lt j i) [
@@ -59,15 +60,18 @@ place_or_past items n k e = elim (cases_lt k n) [
 
 pub item_found : (items : List Located) (id : ℕ) → item_with id items ≡ option_and_then (slice_get items) (id_place (map (λ (r : Located). r.id) items) id)
 item_found items id =
-    let same : position_or_len (λ x. x == id) (map (λ (r : Located). r.id) items) ≡ position_or_len (λ (r : Located). r.id == id) items = prefix_of_map (λ x. not (x == id)) (λ (r : Located). r.id) items in
+    let same : position_or_len (λ x. x == id) (map (λ (r : Located). r.id) items) ≡ position_or_len (λ (r : Located). r.id == id) items =
+    prefix_of_map (λ x. not (x == id)) (λ (r : Located). r.id) items in
     find_at (λ (r : Located). r.id == id) items ∙ ap (slice_get items) (sym same)
     ∙ sym (place_or_past items (length (map (λ (r : Located). r.id) items)) (position_or_len (λ x. x == id) (map (λ (r : Located). r.id) items)) (length-map items (λ (r : Located). r.id)))
 
-chained : (items : List Located) (o : Option ℕ) → option_and_then (λ id. item_with id items) o ≡ option_and_then (slice_get items) (option_and_then (id_place (map (λ (r : Located). r.id) items)) o)
+chained : (items : List Located) (o : Option ℕ)
+    → option_and_then (λ id. item_with id items) o ≡ option_and_then (slice_get items) (option_and_then (id_place (map (λ (r : Located). r.id) items)) o)
 chained items None = refl
 chained items (Some id) = item_found items id
 
-pub source_found : (ids : List ℕ) (items : List Located) (r : Located) (e : Extent) → AreAt ids items → source_of items r e ≡ option_and_then (slice_get items) (place_of ids r e)
+pub source_found : (ids : List ℕ) (items : List Located) (r : Located) (e : Extent) → AreAt ids items
+    → source_of items r e ≡ option_and_then (slice_get items) (place_of ids r e)
 source_found ids items r e at = chained items (id_at e.index r.sources) ∙ ap (λ (l : List ℕ). option_and_then (slice_get items) (option_and_then (id_place l) (id_at e.index r.sources))) at
 
 pub place_within : (ids : List ℕ) (o : Option ℕ) (k : ℕ) → option_and_then (id_place ids) o ≡ Some k → k < length ids
@@ -85,7 +89,8 @@ at_row [] k less = absurd (omega arith)
 at_row (r ∷ rs) zero less = refl
 at_row (r ∷ rs) (suc k) less = at_row rs k (omega arith)
 
-none_there : (ids : List ℕ) (items : List Located) → length items ≡ length ids → (o : Option ℕ) → ((k : ℕ) → o ≡ Some k → k < length ids) → is_none o ≡ is_none (option_and_then (slice_get items) o)
+none_there : (ids : List ℕ) (items : List Located) → length items ≡ length ids → (o : Option ℕ) → ((k : ℕ) → o ≡ Some k → k < length ids)
+    → is_none o ≡ is_none (option_and_then (slice_get items) o)
 none_there ids items e None within = refl
 none_there ids items e (Some k) within =
     let less : k < length ids = within k refl in

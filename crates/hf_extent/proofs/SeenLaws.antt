@@ -17,15 +17,19 @@ pub seen_at : (items : List Located) (i : ℕ) (x : Located) → i < length item
 seen_at items i x less is = slice_get-map item_seen items i ∙ ap (option_map item_seen) (slice_get_read items (length items) i x refl less is)
 
 -- what is left for the place of an item is 0 exactly where unfolding ends
-pub left_ends : (ids : List ℕ) (items : List Located) (order left : List ℕ) (i : ℕ) (x : Located) → AreNamed ids (items_seen items) → IsOrder (length ids) (links_from ids 0 (items_seen items)) order
-    → IsLeft (length ids) left order → i < length items → x ≡ get_or items i x → nat_lt 0 (get_or left i 0) ≡ false → ends (items_seen items) (item_seen x) ≡ true
+pub left_ends : (ids : List ℕ) (items : List Located) (order left : List ℕ) (i : ℕ) (x : Located) → AreNamed ids (items_seen items)
+    → IsOrder (length ids) (links_from ids 0 (items_seen items)) order
+    → IsLeft (length ids) left order → i < length items → x ≡ get_or items i x → nat_lt 0 (get_or left i 0) ≡ false
+    → ends (items_seen items) (item_seen x) ≡ true
 left_ends ids items order left i x named ordered is_left less is none =
     let within : i < length ids = omega (arith, length_at ids (items_seen items) named.at, length-map items item_seen) in
     let few : get_or left i 0 ≤ 0 = ltb-false _ _ none in
     in_order ids (items_seen items) order named ordered i (item_seen x) (seen_at items i x less is) ((is_left.zero i within).1 (omega arith))
 
-pub left_endless : (ids : List ℕ) (items : List Located) (order left : List ℕ) (i : ℕ) (x : Located) → AreNamed ids (items_seen items) → IsOrder (length ids) (links_from ids 0 (items_seen items)) order
-    → IsLeft (length ids) left order → i < length items → x ≡ get_or items i x → nat_lt 0 (get_or left i 0) ≡ true → ends (items_seen items) (item_seen x) ≡ false
+pub left_endless : (ids : List ℕ) (items : List Located) (order left : List ℕ) (i : ℕ) (x : Located) → AreNamed ids (items_seen items)
+    → IsOrder (length ids) (links_from ids 0 (items_seen items)) order
+    → IsLeft (length ids) left order → i < length items → x ≡ get_or items i x → nat_lt 0 (get_or left i 0) ≡ true
+    → ends (items_seen items) (item_seen x) ≡ false
 left_endless ids items order left i x named ordered is_left less is some =
     let within : i < length ids = omega (arith, length_at ids (items_seen items) named.at, length-map items item_seen) in
     let more : 0 < get_or left i 0 = ltb-true _ _ some in

@@ -23,7 +23,8 @@ use Rattle.hf_extent.proofs.PlaceLaws.{length_at, source_found}
 use Rattle.hf_extent.proofs.OrderLaws.{AreNamed, known_before, ends_in_order, in_before, slice_in}
 
 -- one term more of a total that stops
-pub total_more : {A : Type 0} (f : A → ℕ) (xs : List A) (i : ℕ) (d : A) (most total x next : ℕ) → total ≡ min (sum (map f (take i xs))) most → i < length xs → x ≡ f (get_or xs i d) → next ≡ min (total + x) most
+pub total_more : {A : Type 0} (f : A → ℕ) (xs : List A) (i : ℕ) (d : A) (most total x next : ℕ) → total ≡ min (sum (map f (take i xs))) most → i < length xs
+    → x ≡ f (get_or xs i d) → next ≡ min (total + x) most
     → next ≡ min (sum (map f (take (i + 1) xs))) most
 total_more f xs i d most total x next so_far less e g =
     let more : sum (map f (take (i + 1) xs)) ≡ sum (map f (take i xs)) + f (get_or xs i d) =
@@ -31,7 +32,8 @@ total_more f xs i d most total x next so_far less e g =
     omega (arith, so_far, e, g, more)
 
 -- totals of terms that agree up to the greatest number agree up to it
-pub totals_agree : {A : Type 0} (f g : A → ℕ) (most : ℕ) (xs : List A) → ((x : A) → IsIn x xs → min (f x) most ≡ min (g x) most) → min (sum (map f xs)) most ≡ min (sum (map g xs)) most
+pub totals_agree : {A : Type 0} (f g : A → ℕ) (most : ℕ) (xs : List A) → ((x : A) → IsIn x xs → min (f x) most ≡ min (g x) most)
+    → min (sum (map f xs)) most ≡ min (sum (map g xs)) most
 totals_agree f g most [] each = refl
 totals_agree f g most (x ∷ xs) each =
     let first : min (f x) most ≡ min (g x) most = each x (inl refl) in
@@ -55,7 +57,8 @@ same_item a b e = cc
 same_test : (a b : ℕ) → a ≡ b → (a == b) ≡ true
 same_test a b e = grind (arith, nat_tests)
 
-pub knows_more : (value : Located → ℕ) (items : List Located) (order counts : List ℕ) (i : ℕ) (x : ℕ) (now : Located) → Knows value items (take i order) counts → i < length order → get_or order i 0 < length counts
+pub knows_more : (value : Located → ℕ) (items : List Located) (order counts : List ℕ) (i : ℕ) (x : ℕ) (now : Located)
+    → Knows value items (take i order) counts → i < length order → get_or order i 0 < length counts
     → slice_get items (get_or order i 0) ≡ Some now → x ≡ value now → Knows value items (take (i + 1) order) (set counts (get_or order i 0) x)
 knows_more value items order counts i x now knows less within at is = record {
   known = λ k r has there. elim (cases_Bool (k == get_or order i 0)) [
@@ -71,15 +74,18 @@ knows_more value items order counts i x now knows less within at is = record {
   ];
 }
 
-in_item_agree : (most method a b x y : ℕ) → ((method == 2) ≡ true → min x most ≡ min y most) → min (by_method method a b x) most ≡ min (by_method method a b y) most
+in_item_agree : (most method a b x y : ℕ) → ((method == 2) ≡ true → min x most ≡ min y most)
+    → min (by_method method a b x) most ≡ min (by_method method a b y) most
 in_item_agree most method a b x y agree = elim (cases_Bool (method == 2)) [
   | inl two ↦ rw two (agree two)
   | inr other ↦ rw other refl
 ]
 
 -- the number of the item that an extent takes its bytes from is known
-source_known : (most : ℕ) (value : Located → ℕ) (ids : List ℕ) (items : List Located) (order counts : List ℕ) → AreNamed ids items → IsOrder (length ids) (links_from ids 0 items) order → (i : ℕ) (r : Located) (e : Extent) → i < length order → slice_get items (get_or order i 0) ≡ Some r
-    → Knows (λ s. min (value s) most) items (take i order) counts → IsIn e r.extents → (r.method == 2) ≡ true → min (at_place counts (place_of ids r e)) most ≡ min (told 0 value (source_of items r e)) most
+source_known : (most : ℕ) (value : Located → ℕ) (ids : List ℕ) (items : List Located) (order counts : List ℕ) → AreNamed ids items
+    → IsOrder (length ids) (links_from ids 0 items) order → (i : ℕ) (r : Located) (e : Extent) → i < length order → slice_get items (get_or order i 0) ≡ Some r
+    → Knows (λ s. min (value s) most) items (take i order) counts → IsIn e r.extents → (r.method == 2) ≡ true
+    → min (at_place counts (place_of ids r e)) most ≡ min (told 0 value (source_of items r e)) most
 source_known most value ids items order counts named ordered i r e less at knows is two =
     let s = known_before ids items order named ordered i r e less at two is in
     let here : get_or counts s.0 0 ≡ min (value s.1) most = knows.known s.0 s.1 s.5 s.3 in
@@ -87,7 +93,9 @@ source_known most value ids items order counts named ordered i r e less at knows
     let b : told 0 value (source_of items r e) ≡ value s.1 = ap (told 0 value) s.4 in
     omega (arith, here, a, b)
 
-pub leaves_known : (most : ℕ) (ids : List ℕ) (items : List Located) (order counts : List ℕ) → AreNamed ids items → IsOrder (length ids) (links_from ids 0 items) order → loc_cycle_fault items ≡ Ok tt → (i : ℕ) (r : Located) → i < length order → slice_get items (get_or order i 0) ≡ Some r
+pub leaves_known : (most : ℕ) (ids : List ℕ) (items : List Located) (order counts : List ℕ) → AreNamed ids items
+    → IsOrder (length ids) (links_from ids 0 items) order → loc_cycle_fault items ≡ Ok tt → (i : ℕ) (r : Located) → i < length order
+    → slice_get items (get_or order i 0) ≡ Some r
     → Knows (λ s. min (leaves_of items s) most) items (take i order) counts → min (leaves_by ids counts r) most ≡ min (leaves_of items r) most
 leaves_known most ids items order counts named ordered ending i r less at knows =
     let all : min (leaves_by ids counts r) most ≡ min (leaves_in items (leaves_of items) r) most =
@@ -96,14 +104,18 @@ leaves_known most ids items order counts named ordered ending i r less at knows 
     in
     all ∙ ap (λ n. min n most) (sym (leaves_are items r (not_endless items r ending (slice_in items (get_or order i 0) r at))))
 
-stated_agree : (most : ℕ) (e : Extent) (x y : ℕ) → min x most ≡ min y most → min (if e.length == 0 then x else e.length) most ≡ min (if e.length == 0 then y else e.length) most
+stated_agree : (most : ℕ) (e : Extent) (x y : ℕ) → min x most ≡ min y most
+    → min (if e.length == 0 then x else e.length) most ≡ min (if e.length == 0 then y else e.length) most
 stated_agree most e x y agree = elim (cases_Bool (e.length == 0)) [
   | inl whole ↦ rw whole agree
   | inr part ↦ rw part refl
 ]
 
-pub size_known : (most len inner : ℕ) (ids : List ℕ) (items : List Located) (order counts : List ℕ) → AreNamed ids items → IsOrder (length ids) (links_from ids 0 items) order → loc_cycle_fault items ≡ Ok tt → (i : ℕ) (r : Located) → i < length order → slice_get items (get_or order i 0) ≡ Some r
-    → Knows (λ s. min (size_of len inner items s) most) items (take i order) counts → min (size_by len inner ids counts r) most ≡ min (size_of len inner items r) most
+pub size_known : (most len inner : ℕ) (ids : List ℕ) (items : List Located) (order counts : List ℕ) → AreNamed ids items
+    → IsOrder (length ids) (links_from ids 0 items) order → loc_cycle_fault items ≡ Ok tt → (i : ℕ) (r : Located) → i < length order
+    → slice_get items (get_or order i 0) ≡ Some r
+    → Knows (λ s. min (size_of len inner items s) most) items (take i order) counts
+    → min (size_by len inner ids counts r) most ≡ min (size_of len inner items r) most
 size_known most len inner ids items order counts named ordered ending i r less at knows =
     let all : min (size_by len inner ids counts r) most ≡ min (size_in len inner items (size_of len inner items) r) most =
     totals_agree (extent_by len inner ids counts r) (extent_size len inner items (size_of len inner items) r) most r.extents
@@ -112,7 +124,8 @@ size_known most len inner ids items order counts named ordered ending i r less a
     all ∙ ap (λ n. min n most) (sym (size_is len inner items r (not_endless items r ending (slice_in items (get_or order i 0) r at))))
 
 -- where unfolding ends at each item, all numbers are known
-all_known : (f : Located → ℕ) (items : List Located) (counts : List ℕ) → length counts ≡ length items → ((k : ℕ) (r : Located) → slice_get items k ≡ Some r → get_or counts k 0 ≡ f r) → counts ≡ map f items
+all_known : (f : Located → ℕ) (items : List Located) (counts : List ℕ) → length counts ≡ length items
+    → ((k : ℕ) (r : Located) → slice_get items k ≡ Some r → get_or counts k 0 ≡ f r) → counts ≡ map f items
 all_known f [] [] same each = refl
 all_known f [] (c ∷ cs) same each = absurd (omega arith)
 all_known f (r ∷ rs) [] same each = absurd (omega arith)
@@ -125,7 +138,8 @@ whole_list [] (suc n) all = refl
 whole_list (x ∷ xs) zero all = absurd (omega arith)
 whole_list (x ∷ xs) (suc n) all = ap (λ (l : List ℕ). x ∷ l) (whole_list xs n (omega arith))
 
-pub knows_all : (value : Located → ℕ) (ids : List ℕ) (items : List Located) (order counts : List ℕ) (n : ℕ) → AreNamed ids items → IsOrder (length ids) (links_from ids 0 items) order → loc_cycle_fault items ≡ Ok tt → length order ≤ n → length counts ≡ length ids
+pub knows_all : (value : Located → ℕ) (ids : List ℕ) (items : List Located) (order counts : List ℕ) (n : ℕ) → AreNamed ids items
+    → IsOrder (length ids) (links_from ids 0 items) order → loc_cycle_fault items ≡ Ok tt → length order ≤ n → length counts ≡ length ids
     → Knows value items (take n order) counts → counts ≡ map value items
 knows_all value ids items order counts n named ordered ending all count knows =
     all_known value items counts (count ∙ sym (length_at ids items named.at))
@@ -147,14 +161,17 @@ limited_within limit total n why e few small =
     rw t refl
 
 -- the total of numbers that stop, as that of the numbers themselves
-pub totals_stop : (f : Located → ℕ) (most : ℕ) (items : List Located) → min (sum (map (λ (r : Located). min (f r) most) items)) most ≡ min (sum (map f items)) most
+pub totals_stop : (f : Located → ℕ) (most : ℕ) (items : List Located)
+    → min (sum (map (λ (r : Located). min (f r) most) items)) most ≡ min (sum (map f items)) most
 totals_stop f most items = totals_agree (λ (r : Located). min (f r) most) f most items (λ r is. omega arith)
 
-pub counted : (f : Located → ℕ) (most : ℕ) (items : List Located) (counts : List ℕ) (total : ℕ) → counts ≡ map (λ (r : Located). min (f r) most) items → total ≡ min (sum counts) most → total ≡ min (sum (map f items)) most
+pub counted : (f : Located → ℕ) (most : ℕ) (items : List Located) (counts : List ℕ) (total : ℕ) → counts ≡ map (λ (r : Located). min (f r) most) items
+    → total ≡ min (sum counts) most → total ≡ min (sum (map f items)) most
 counted f most items counts total are e = e ∙ ap (λ (l : List ℕ). min (sum l) most) are ∙ totals_stop f most items
 
 -- the sum so far of numbers, which stops
-pub sum_more : (xs : List ℕ) (i : ℕ) (most total x next : ℕ) → total ≡ min (sum (take i xs)) most → i < length xs → x ≡ get_or xs i 0 → next ≡ min (total + x) most → next ≡ min (sum (take (i + 1) xs)) most
+pub sum_more : (xs : List ℕ) (i : ℕ) (most total x next : ℕ) → total ≡ min (sum (take i xs)) most → i < length xs → x ≡ get_or xs i 0
+    → next ≡ min (total + x) most → next ≡ min (sum (take (i + 1) xs)) most
 sum_more xs i most total x next so_far less e g =
     let more : sum (take (i + 1) xs) ≡ sum (take i xs) + get_or xs i 0 = sum_by_more (λ n. n) xs i 0 less in
     omega (arith, so_far, e, g, more)
@@ -176,12 +193,15 @@ item_there (x ∷ xs) zero less = (x, refl)
 item_there (x ∷ xs) (suc k) less = item_there xs k (omega arith)
 
 -- the size at a place
-pub size_at : (len inner : ℕ) (ids : List ℕ) (items : List Located) (r : Located) (e : Extent) (sizes : List ℕ) (k : ℕ) → AreAt ids items → sizes ≡ stopped len inner items → place_of ids r e ≡ Some k → k < length ids
+pub size_at : (len inner : ℕ) (ids : List ℕ) (items : List Located) (r : Located) (e : Extent) (sizes : List ℕ) (k : ℕ) → AreAt ids items
+    → sizes ≡ stopped len inner items → place_of ids r e ≡ Some k → k < length ids
     → get_or sizes k 0 ≡ min (told 0 (size_of len inner items) (source_of items r e)) (2 ^ 128 - 1)
 size_at len inner ids items r e sizes k at are place within =
     let s = item_there items k (omega (arith, length_at ids items at)) in
     let source : source_of items r e ≡ Some s.0 = source_found ids items r e at ∙ ap (option_and_then (slice_get items)) place ∙ s.1 in
-    let here : slice_get sizes k ≡ Some (min (size_of len inner items s.0) (2 ^ 128 - 1)) = ap (λ (l : List ℕ). slice_get l k) are ∙ slice_get-map (λ (x : Located). min (size_of len inner items x) (2 ^ 128 - 1)) items k ∙ ap (option_map (λ (x : Located). min (size_of len inner items x) (2 ^ 128 - 1))) s.1 in
+    let here : slice_get sizes k ≡ Some (min (size_of len inner items s.0) (2 ^ 128 - 1)) = ap (λ (l : List ℕ). slice_get l k) are
+    ∙ slice_get-map (λ (x : Located). min (size_of len inner items x) (2 ^ 128 - 1)) items k
+    ∙ ap (option_map (λ (x : Located). min (size_of len inner items x) (2 ^ 128 - 1))) s.1 in
     get_or_from_slice_get sizes k _ 0 here ∙ ap (λ (o : Option Located). min (told 0 (size_of len inner items) o) (2 ^ 128 - 1)) (sym source)
 
 -- no place, no source

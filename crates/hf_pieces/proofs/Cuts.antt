@@ -26,13 +26,15 @@ drop_ends (suc n) [] ys = let e : suc n - 0 ≡ suc n = omega arith in rw e refl
 drop_ends (suc n) (x ∷ xs) ys = let e : suc n - length (x ∷ xs) ≡ n - length xs = omega arith in rw e (drop_ends n xs ys)
 
 -- as much of a slice as is to be taken
-part : (s : List ℕ) (skip left start count : ℕ) → start ≡ min skip (length s) → count ≡ min left (length s - start) → take count (drop start s) ≡ take left (drop skip s)
+part : (s : List ℕ) (skip left start count : ℕ) → start ≡ min skip (length s) → count ≡ min left (length s - start)
+    → take count (drop start s) ≡ take left (drop skip s)
 part s skip left start count e f =
     let at : drop start s ≡ drop skip s = ap (λ (n : ℕ). drop n s) e ∙ drop_min skip s in
     let g : count ≡ min left (length (drop start s)) = omega (arith, e, f, length-drop start s) in
     ap (λ (n : ℕ). take n (drop start s)) g ∙ take_min left (drop start s) ∙ ap (λ (l : List ℕ). take left l) at
 
-pub cut_more : (at len : ℕ) (old front s : List ℕ) (skip left start count : ℕ) (now text : List ℕ) → HasCut at len old front skip left now → start ≡ min skip (length s) → count ≡ min left (length s - start)
+pub cut_more : (at len : ℕ) (old front s : List ℕ) (skip left start count : ℕ) (now text : List ℕ) → HasCut at len old front skip left now
+    → start ≡ min skip (length s) → count ≡ min left (length s - start)
     → text ≡ take count (drop start s) → HasCut at len old (front ++ s) (skip - start) (left - count) (now ++ text)
 cut_more at len old front s skip left start count now text h e f g =
     let ends : take len (drop at (front ++ s)) ≡ take len (drop at front) ++ take (len - length (drop at front)) (drop (at - length front) s) =
@@ -50,11 +52,15 @@ cut_more at len old front s skip left start count now text h e f g =
     }
 
 -- with one slice more of a list
-pub cuts_more : (at len : ℕ) (old : List ℕ) (slices : List (Bor (List ℕ))) (place : ℕ) (d : Bor (List ℕ)) (skip left start count : ℕ) (now next : List ℕ) → place < length slices
-    → HasCut at len old (joined (seen (take place slices))) skip left now → start ≡ min skip (length (get_or slices place d).now) → count ≡ min left (length (get_or slices place d).now - start)
-    → next ≡ now ++ take ((start + count) - start) (drop start (get_or slices place d).now) → HasCut at len old (joined (seen (take (place + 1) slices))) (skip - start) (left - count) next
+pub cuts_more : (at len : ℕ) (old : List ℕ) (slices : List (Bor (List ℕ))) (place : ℕ) (d : Bor (List ℕ)) (skip left start count : ℕ) (now next : List ℕ)
+    → place < length slices
+    → HasCut at len old (joined (seen (take place slices))) skip left now → start ≡ min skip (length (get_or slices place d).now)
+    → count ≡ min left (length (get_or slices place d).now - start)
+    → next ≡ now ++ take ((start + count) - start) (drop start (get_or slices place d).now)
+    → HasCut at len old (joined (seen (take (place + 1) slices))) (skip - start) (left - count) next
 cuts_more at len old slices place d skip left start count now next less h e f g =
-    let text : take ((start + count) - start) (drop start (get_or slices place d).now) ≡ take count (drop start (get_or slices place d).now) = ap (λ (n : ℕ). take n (drop start (get_or slices place d).now)) (omega arith) in
+    let text : take ((start + count) - start) (drop start (get_or slices place d).now) ≡ take count (drop start (get_or slices place d).now) =
+    ap (λ (n : ℕ). take n (drop start (get_or slices place d).now)) (omega arith) in
     rw (joined_more slices place d less, g) (cut_more at len old (joined (seen (take place slices))) (get_or slices place d).now skip left start count now _ h e f text)
 
 -- ---- what stood there first
@@ -78,7 +84,8 @@ filled_take (s ∷ ss) (suc count) all =
     let parts = and_parts (nat_lt 0 (length s.now)) (are_filled (seen ss)) all in
     and_from (nat_lt 0 (length s.now)) (are_filled (seen (take count ss))) parts.0 (filled_take ss count parts.1)
 
-pub seen_front : (slices left : List (Bor (List ℕ))) (count : ℕ) (pieces : List (List ℕ)) → left ≡ take count slices → seen slices ≡ pieces → seen left ≡ take count pieces
+pub seen_front : (slices left : List (Bor (List ℕ))) (count : ℕ) (pieces : List (List ℕ)) → left ≡ take count slices → seen slices ≡ pieces
+    → seen left ≡ take count pieces
 seen_front slices left count pieces is whole = ap seen is ∙ sym (take-map (λ (s : Bor (List ℕ)). s.now) count slices) ∙ ap (take count) whole
 
 pub filled_front : (slices left : List (Bor (List ℕ))) (count : ℕ) → left ≡ take count slices → are_filled (seen slices) ≡ true → are_filled (seen left) ≡ true

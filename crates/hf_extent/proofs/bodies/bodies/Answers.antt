@@ -18,28 +18,37 @@ loop-at-init c = record { count = c.in_ok-bodies.ensures; knows = bytes_none (by
 
 pub body-requires-clause-there : goal.body-requires-clause-there
 body-requires-clause-there c =
-    let named : AreNamed c.args.ids.now (items_seen c.args.items.now) = named_items c.args.file.now (option_copied c.args.idat) c.args.ids.now (items_seen c.args.items.now) c.requires.known c.requires.faultless in
+    let named : AreNamed c.args.ids.now (items_seen c.args.items.now) =
+    named_items c.args.file.now (option_copied c.args.idat) c.args.ids.now (items_seen c.args.items.now) c.requires.known c.requires.faultless in
     let place : get_or c.args.order.now c.loop-at.at-index 0 < length c.args.ids.now = c.requires.ordered.within c.loop-at.at-index c.loop-at-test.true in
-    let within : get_or c.args.order.now c.loop-at.at-index 0 < length c.args.items.now = omega (arith, length_at c.args.ids.now (items_seen c.args.items.now) c.requires.known, length-map c.args.items.now item_seen) in
-    let at : slice_get (items_seen c.args.items.now) (get_or c.args.order.now c.loop-at.at-index 0) ≡ Some (item_seen c.index-items-at.result) = seen_at c.args.items.now _ c.index-items-at.result within c.index-items-at.is in
+    let within : get_or c.args.order.now c.loop-at.at-index 0 < length c.args.items.now =
+    omega (arith, length_at c.args.ids.now (items_seen c.args.items.now) c.requires.known, length-map c.args.items.now item_seen) in
+    let at : slice_get (items_seen c.args.items.now) (get_or c.args.order.now c.loop-at.at-index 0) ≡ Some (item_seen c.index-items-at.result) =
+    seen_at c.args.items.now _ c.index-items-at.result within c.index-items-at.is in
     let knows : KnowsBytes (bytes_of c.args.file.now (option_copied c.args.idat) (items_seen c.args.items.now)) (items_seen c.args.items.now) (take c.loop-at.at-index c.args.order.now) (map joined c.deref.result.now) = rw c.deref.ensures.value c.loop-at.invariant.knows in
     (body_there c.args.file.now (option_copied c.args.idat) c.args.ids.now (items_seen c.args.items.now) c.args.order.now (map joined c.deref.result.now) named c.requires.ordered c.requires.faultless c.loop-at.at-index (item_seen c.index-items-at.result) c.loop-at-test.true at knows).0
 
 pub body-requires-clause-room : goal.body-requires-clause-room
 body-requires-clause-room c =
-    let named : AreNamed c.args.ids.now (items_seen c.args.items.now) = named_items c.args.file.now (option_copied c.args.idat) c.args.ids.now (items_seen c.args.items.now) c.requires.known c.requires.faultless in
+    let named : AreNamed c.args.ids.now (items_seen c.args.items.now) =
+    named_items c.args.file.now (option_copied c.args.idat) c.args.ids.now (items_seen c.args.items.now) c.requires.known c.requires.faultless in
     let place : get_or c.args.order.now c.loop-at.at-index 0 < length c.args.ids.now = c.requires.ordered.within c.loop-at.at-index c.loop-at-test.true in
-    let within : get_or c.args.order.now c.loop-at.at-index 0 < length c.args.items.now = omega (arith, length_at c.args.ids.now (items_seen c.args.items.now) c.requires.known, length-map c.args.items.now item_seen) in
-    let at : slice_get (items_seen c.args.items.now) (get_or c.args.order.now c.loop-at.at-index 0) ≡ Some (item_seen c.index-items-at.result) = seen_at c.args.items.now _ c.index-items-at.result within c.index-items-at.is in
+    let within : get_or c.args.order.now c.loop-at.at-index 0 < length c.args.items.now =
+    omega (arith, length_at c.args.ids.now (items_seen c.args.items.now) c.requires.known, length-map c.args.items.now item_seen) in
+    let at : slice_get (items_seen c.args.items.now) (get_or c.args.order.now c.loop-at.at-index 0) ≡ Some (item_seen c.index-items-at.result) =
+    seen_at c.args.items.now _ c.index-items-at.result within c.index-items-at.is in
     let knows : KnowsBytes (bytes_of c.args.file.now (option_copied c.args.idat) (items_seen c.args.items.now)) (items_seen c.args.items.now) (take c.loop-at.at-index c.args.order.now) (map joined c.deref.result.now) = rw c.deref.ensures.value c.loop-at.invariant.knows in
     (body_there c.args.file.now (option_copied c.args.idat) c.args.ids.now (items_seen c.args.items.now) c.args.order.now (map joined c.deref.result.now) named c.requires.ordered c.requires.faultless c.loop-at.at-index (item_seen c.index-items-at.result) c.loop-at-test.true at knows).1
 
 pub loop-at-preserved : goal.loop-at-preserved
 loop-at-preserved c =
-    let named : AreNamed c.args.ids.now (items_seen c.args.items.now) = named_items c.args.file.now (option_copied c.args.idat) c.args.ids.now (items_seen c.args.items.now) c.requires.known c.requires.faultless in
+    let named : AreNamed c.args.ids.now (items_seen c.args.items.now) =
+    named_items c.args.file.now (option_copied c.args.idat) c.args.ids.now (items_seen c.args.items.now) c.requires.known c.requires.faultless in
     let place : get_or c.args.order.now c.loop-at.at-index 0 < length c.args.ids.now = c.requires.ordered.within c.loop-at.at-index c.loop-at-test.true in
-    let within : get_or c.args.order.now c.loop-at.at-index 0 < length c.args.items.now = omega (arith, length_at c.args.ids.now (items_seen c.args.items.now) c.requires.known, length-map c.args.items.now item_seen) in
-    let at : slice_get (items_seen c.args.items.now) (get_or c.args.order.now c.loop-at.at-index 0) ≡ Some (item_seen c.index-items-at.result) = seen_at c.args.items.now _ c.index-items-at.result within c.index-items-at.is in
+    let within : get_or c.args.order.now c.loop-at.at-index 0 < length c.args.items.now =
+    omega (arith, length_at c.args.ids.now (items_seen c.args.items.now) c.requires.known, length-map c.args.items.now item_seen) in
+    let at : slice_get (items_seen c.args.items.now) (get_or c.args.order.now c.loop-at.at-index 0) ≡ Some (item_seen c.index-items-at.result) =
+    seen_at c.args.items.now _ c.index-items-at.result within c.index-items-at.is in
     let inside : get_or c.args.order.now c.loop-at.at-index 0 < length c.loop-at.bodies.items = omega (arith, c.loop-at.invariant.count) in
     let told : bytes_of c.args.file.now (option_copied c.args.idat) (items_seen c.args.items.now) (item_seen c.index-items-at.result) ≡ Some (joined c.in_ok-made.made) =
     sym (body_known c.args.file.now (option_copied c.args.idat) c.args.ids.now (items_seen c.args.items.now) c.args.order.now (map joined c.loop-at.bodies.items) named c.requires.ordered c.requires.faultless c.loop-at.at-index (item_seen c.index-items-at.result) c.loop-at-test.true at c.loop-at.invariant.knows)
@@ -53,5 +62,6 @@ loop-at-preserved c =
 
 pub returns : goal.returns
 returns c =
-    let named : AreNamed c.args.ids.now (items_seen c.args.items.now) = named_items c.args.file.now (option_copied c.args.idat) c.args.ids.now (items_seen c.args.items.now) c.requires.known c.requires.faultless in
+    let named : AreNamed c.args.ids.now (items_seen c.args.items.now) =
+    named_items c.args.file.now (option_copied c.args.idat) c.args.ids.now (items_seen c.args.items.now) c.requires.known c.requires.faultless in
     bytes_all c.args.file.now (option_copied c.args.idat) c.args.ids.now (items_seen c.args.items.now) c.args.order.now c.loop-at.bodies.items c.loop-at.at-index named c.requires.ordered c.requires.faultless c.loop-at-test.false c.loop-at.invariant.count c.loop-at.invariant.knows

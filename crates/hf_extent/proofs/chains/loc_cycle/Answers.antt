@@ -15,14 +15,16 @@ loop-i-init c = none_at_start (is_endless (items_seen c.args.items.now)) c.args.
 pub loop-i-preserved : goal.loop-i-preserved
 loop-i-preserved c =
     let named : AreNamed c.args.ids.now (items_seen c.args.items.now) = record { at = c.requires.known; named = c.requires.named } in
-    let ending : ends (items_seen c.args.items.now) (item_seen c.index-items-i.result) ≡ true = left_ends c.args.ids.now c.args.items.now _ c.args.order.now.left.items c.loop-i.i c.index-items-i.result named c.requires.ordered c.requires.left c.loop-i-test.true c.index-items-i.is (sym c.is_left_out.ensures ∙ c.if-is_left_out.false) in
+    let ending : ends (items_seen c.args.items.now) (item_seen c.index-items-i.result) ≡ true =
+    left_ends c.args.ids.now c.args.items.now _ c.args.order.now.left.items c.loop-i.i c.index-items-i.result named c.requires.ordered c.requires.left c.loop-i-test.true c.index-items-i.is (sym c.is_left_out.ensures ∙ c.if-is_left_out.false) in
     none_more (is_endless (items_seen c.args.items.now)) c.args.items.now _ c.index-items-i.result c.loop-i.invariant c.loop-i-test.true c.index-items-i.is (ap (λ (b : Bool). not b) ending)
 
 pub returns-then-is_left_out : goal.returns-then-is_left_out
 unfolding loc_cycle_fault
 returns-then-is_left_out c =
     let named : AreNamed c.args.ids.now (items_seen c.args.items.now) = record { at = c.requires.known; named = c.requires.named } in
-    let endless : ends (items_seen c.args.items.now) (item_seen c.index-items-i.result) ≡ false = left_endless c.args.ids.now c.args.items.now _ c.args.order.now.left.items c.loop-i.i c.index-items-i.result named c.requires.ordered c.requires.left c.loop-i-test.true c.index-items-i.is (sym c.is_left_out.ensures ∙ c.if-is_left_out.true) in
+    let endless : ends (items_seen c.args.items.now) (item_seen c.index-items-i.result) ≡ false =
+    left_endless c.args.ids.now c.args.items.now _ c.args.order.now.left.items c.loop-i.i c.index-items-i.result named c.requires.ordered c.requires.left c.loop-i-test.true c.index-items-i.is (sym c.is_left_out.ensures ∙ c.if-is_left_out.true) in
     ap (refused (λ id. LocCycle id)) (first_here (is_endless (items_seen c.args.items.now)) c.args.items.now _ c.index-items-i.result c.loop-i.invariant c.loop-i-test.true c.index-items-i.is (ap (λ (b : Bool). not b) endless))
 
 pub returns : goal.returns

@@ -11,7 +11,8 @@ use Rattle.hf_extent.proofs.items.add_link.Goals as goal
 
 pub returns-in-Some : goal.returns-in-Some
 returns-in-Some c = λ locs links so_far.
-    let within : c.in-Some.at < length c.args.items.now = omega (arith, c.in-Some.ensures.within, length_at c.args.ids.now (items_seen c.args.items.now) c.requires.known, length-map c.args.items.now item_seen) in
+    let within : c.in-Some.at < length c.args.items.now =
+    omega (arith, c.in-Some.ensures.within, length_at c.args.ids.now (items_seen c.args.items.now) c.requires.known, length-map c.args.items.now item_seen) in
     let kind : bytes_eq c.args.link.now.kind.0 ILOC.0 ≡ true = same_kind c.args.link.now.kind ILOC (c.is.ensures.0 c.if-not-is.false) in
     on_ok c.add_sources.result c.add_sources.ensures (λ e. link_more c.args.ids.now c.args.items.now locs links c.args.link.now c.in-Some.at (get_or c.args.items.now c.in-Some.at c.index-items-at.result) c.add_sources.new.item c.requires.rising so_far kind c.in-Some.ensures.value within (ap (λ (r : Located). get_or c.args.items.now c.in-Some.at r) c.index-items-at.is) e)
 

@@ -10,8 +10,10 @@ add_entry-requires-clause-known c = are_at c.args.ids.now _ (take c.loop-loc.loc
 
 pub loop-loc-preserved : goal.loop-loc-preserved
 loop-loc-preserved c =
-    let none : loc_of c.loc-item.result.id (take c.loop-loc.loc-index c.args.locs.now) ≡ None = none_before c.args.locs.now c.loop-loc.loc-index c.loc-item.result c.requires.distinct c.loop-loc-test.true c.loc-item.is in
-    let before : items_seen c.deref_mut.result.now ≡ located_items c.args.ids.now (take c.loop-loc.loc-index c.args.locs.now) [] = ap items_seen c.deref_mut.ensures.value ∙ c.loop-loc.invariant in
+    let none : loc_of c.loc-item.result.id (take c.loop-loc.loc-index c.args.locs.now) ≡ None =
+    none_before c.args.locs.now c.loop-loc.loc-index c.loc-item.result c.requires.distinct c.loop-loc-test.true c.loc-item.is in
+    let before : items_seen c.deref_mut.result.now ≡ located_items c.args.ids.now (take c.loop-loc.loc-index c.args.locs.now) [] =
+    ap items_seen c.deref_mut.ensures.value ∙ c.loop-loc.invariant in
     let taken = loc_taken c.args.ids.now c.add_entry.new.items c.args.locs.now c.loop-loc.loc-index c.loc-item.result (c.add_entry.ensures (take c.loop-loc.loc-index c.args.locs.now) [] before none) c.loop-loc-test.true c.loc-item.is in
     ap items_seen (with_items_is c.loop-loc.items c.add_entry.new.items (omega (arith, c.add_entry.auto.items, ap length c.deref_mut.ensures.value, c.loop-loc.items.ok.0))) ∙ taken
 

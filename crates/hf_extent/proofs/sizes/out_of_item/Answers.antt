@@ -12,14 +12,16 @@ loop-item-init c = none_at_start (is_out_of_item c.args.len c.args.inner (items_
 pub returns-then-is_out_of_item : goal.returns-then-is_out_of_item
 unfolding out_of_item_fault
 returns-then-is_out_of_item c = λ F idat e f.
-    let held : (is_out_of_item c.args.len c.args.inner (items_seen c.args.items.now)) (item_seen c.item-item.result) ≡ true = sym c.is_out_of_item.ensures ∙ c.if-is_out_of_item.true in
+    let held : (is_out_of_item c.args.len c.args.inner (items_seen c.args.items.now)) (item_seen c.item-item.result) ≡ true = sym c.is_out_of_item.ensures
+    ∙ c.if-is_out_of_item.true in
     ap (λ (n : ℕ). refused (λ id. OutOfItem id) (first_with (is_out_of_item n (inner_size idat) (items_seen c.args.items.now)) (items_seen c.args.items.now))) (sym e)
     ∙ ap (λ (n : ℕ). refused (λ id. OutOfItem id) (first_with (is_out_of_item c.args.len n (items_seen c.args.items.now)) (items_seen c.args.items.now))) (sym f)
     ∙ ap (refused (λ id. OutOfItem id)) (first_here (is_out_of_item c.args.len c.args.inner (items_seen c.args.items.now)) c.args.items.now _ c.item-item.result c.loop-item.invariant c.loop-item-test.true c.item-item.is held)
 
 pub loop-item-preserved : goal.loop-item-preserved
 loop-item-preserved c =
-    let fails : (is_out_of_item c.args.len c.args.inner (items_seen c.args.items.now)) (item_seen c.item-item.result) ≡ false = sym c.is_out_of_item.ensures ∙ c.if-is_out_of_item.false in
+    let fails : (is_out_of_item c.args.len c.args.inner (items_seen c.args.items.now)) (item_seen c.item-item.result) ≡ false = sym c.is_out_of_item.ensures
+    ∙ c.if-is_out_of_item.false in
     none_more (is_out_of_item c.args.len c.args.inner (items_seen c.args.items.now)) c.args.items.now _ c.item-item.result c.loop-item.invariant c.loop-item-test.true c.item-item.is fails
 
 pub returns : goal.returns

@@ -16,8 +16,10 @@ pub loop-at-preserved : goal.loop-at-preserved
 loop-at-preserved c =
     let named : AreNamed c.args.ids.now (items_seen c.args.items.now) = record { at = c.requires.known; named = c.requires.named } in
     let place : get_or c.args.order.now c.loop-at.at-index 0 < length c.args.ids.now = c.requires.ordered.within c.loop-at.at-index c.loop-at-test.true in
-    let within : get_or c.args.order.now c.loop-at.at-index 0 < length c.args.items.now = omega (arith, length_at c.args.ids.now (items_seen c.args.items.now) c.requires.known, length-map c.args.items.now item_seen) in
-    let at : slice_get (items_seen c.args.items.now) (get_or c.args.order.now c.loop-at.at-index 0) ≡ Some (item_seen c.index-items-at.result) = seen_at c.args.items.now _ c.index-items-at.result within c.index-items-at.is in
+    let within : get_or c.args.order.now c.loop-at.at-index 0 < length c.args.items.now =
+    omega (arith, length_at c.args.ids.now (items_seen c.args.items.now) c.requires.known, length-map c.args.items.now item_seen) in
+    let at : slice_get (items_seen c.args.items.now) (get_or c.args.order.now c.loop-at.at-index 0) ≡ Some (item_seen c.index-items-at.result) =
+    seen_at c.args.items.now _ c.index-items-at.result within c.index-items-at.is in
     let inside : get_or c.args.order.now c.loop-at.at-index 0 < length c.loop-at.sizes.items = omega (arith, c.loop-at.invariant.count) in
     record {
       count = simp length-set c.loop-at.invariant.count;

@@ -12,12 +12,16 @@ loop-item-init c = none_at_start (has_bad_index (items_seen c.args.items.now)) c
 pub returns-then-lacks_source : goal.returns-then-lacks_source
 unfolding bad_index_fault
 returns-then-lacks_source c =
-    let held : has_bad_index (items_seen c.args.items.now) (item_seen c.item-item.result) ≡ true = sym (bad_place_is c.args.ids.now (items_seen c.args.items.now) (item_seen c.item-item.result) c.requires.known) ∙ sym c.lacks_source.ensures ∙ c.if-lacks_source.true in
+    let held : has_bad_index (items_seen c.args.items.now) (item_seen c.item-item.result) ≡ true =
+    sym (bad_place_is c.args.ids.now (items_seen c.args.items.now) (item_seen c.item-item.result) c.requires.known) ∙ sym c.lacks_source.ensures
+    ∙ c.if-lacks_source.true in
     ap (refused (λ id. BadIndex id)) (first_here (has_bad_index (items_seen c.args.items.now)) c.args.items.now _ c.item-item.result c.loop-item.invariant c.loop-item-test.true c.item-item.is held)
 
 pub loop-item-preserved : goal.loop-item-preserved
 loop-item-preserved c =
-    let fails : has_bad_index (items_seen c.args.items.now) (item_seen c.item-item.result) ≡ false = sym (bad_place_is c.args.ids.now (items_seen c.args.items.now) (item_seen c.item-item.result) c.requires.known) ∙ sym c.lacks_source.ensures ∙ c.if-lacks_source.false in
+    let fails : has_bad_index (items_seen c.args.items.now) (item_seen c.item-item.result) ≡ false =
+    sym (bad_place_is c.args.ids.now (items_seen c.args.items.now) (item_seen c.item-item.result) c.requires.known) ∙ sym c.lacks_source.ensures
+    ∙ c.if-lacks_source.false in
     none_more (has_bad_index (items_seen c.args.items.now)) c.args.items.now _ c.item-item.result c.loop-item.invariant c.loop-item-test.true c.item-item.is fails
 
 pub returns : goal.returns
