@@ -17,9 +17,9 @@ use Rattle.hf_app.specs.Answers.{Ends, Answers}
 use Rattle.hf_app.specs.Denotes.{Denotes, fault_of}
 use Rattle.hf_app.specs.Due.{Due, IsDueOf, IsDueOfEdits, answered}
 use Rattle.hf_app.specs.Edits.{IsEdited, IsRefused, stepped}
-use Rattle.hf_app.specs.Words.{Command, Boxes, EditFile}
-use Rattle.hf_app.specs.declared.outcome.Outcome.{Outcome}
-use Rattle.hf_app.specs.declared.outcome.Outcome.TheVariants.{Done, Unfit, Refused, TooLong}
+use Rattle.hf_text.specs.Words.{Command, Boxes, EditFile}
+use Rattle.hf_text.specs.declared.outcome.Outcome.{Outcome}
+use Rattle.hf_text.specs.declared.outcome.Outcome.TheVariants.{Done, Unfit, Refused, TooLong}
 use Rattle.hf_app.proofs.DenotesLaws.{denotes_one}
 
 abbrev pub Stepped : Type 0

@@ -14,14 +14,14 @@ use Rattle.hf_desk.specs.declared.read.ReadStop.TheVariants as reads
 use Rattle.hf_store.specs.Changes.{Edit}
 use Rattle.hf_app.specs.declared.editing.Stop.{Stop}
 use Rattle.hf_app.specs.declared.editing.Stop.TheVariants as stops
-use Rattle.hf_app.specs.declared.outcome.Outcome.{Outcome}
-use Rattle.hf_app.specs.declared.outcome.Outcome.TheVariants.{Done, Usage, Unfit, Refused, TooLong, ReadFault, WriteFault, NoMemory}
+use Rattle.hf_text.specs.declared.outcome.Outcome.{Outcome}
+use Rattle.hf_text.specs.declared.outcome.Outcome.TheVariants.{Done, Usage, Unfit, Refused, TooLong, ReadFault, WriteFault, NoMemory}
 use Rattle.hf_app.specs.Answers.{Answers, Ends, ForDue, ForFile, HasCause, HasDue, IsDueOrNoMemory}
 use Rattle.hf_app.specs.Due.{Due, IsDefined, IsDue, IsDueOf, IsDueOfEdits, answered, due_of_rows, input_of}
 use Rattle.hf_app.specs.Edits.{IsEdited, Stops}
 use Rattle.hf_app.specs.Stops.{outcome_of_read, outcome_of_stop}
-use Rattle.hf_app.specs.Texts.{rows_text}
-use Rattle.hf_app.specs.Words.{Command, Boxes, EditFile}
+use Rattle.hf_text.specs.Texts.{rows_text}
+use Rattle.hf_text.specs.Words.{Command, Boxes, EditFile}
 
 -- the file that is told has these bytes
 abbrev HasBytes : Outside → List ℕ → List ℕ → Type 0

@@ -10,9 +10,9 @@ use Rattle.hf_store.specs.Plain.{IsPlain, ArePlain}
 use Rattle.hf_store.specs.Changes.{Edit, needs, needed_by, step, why, why_not_removed}
 use Rattle.hf_store.specs.declared.reason.Reason.{Reason}
 use Rattle.hf_store.specs.declared.reason.Reason.TheVariants.{NoItem, IsPrimary}
-use Rattle.hf_app.specs.Commands.{edit_of}
+use Rattle.hf_text.specs.Commands.{edit_of}
 use Rattle.hf_app.specs.Edits.{unless, stepped}
-use Rattle.hf_app.specs.declared.words.EditWord.{EditWord}
+use Rattle.hf_text.specs.declared.words.EditWord.{EditWord}
 
 -- one more edit was made, or is refused
 pub stepped-more : (n : ℕ) (s : ItemStore) (e : Edit) (es : List Edit) → why s e ≡ None → stepped n s (e ∷ es) ≡ stepped (n + 1) (step s e) es

@@ -17,8 +17,8 @@ use Rattle.hf_app.specs.Denotes.{Denotes, reading, fault_of}
 use Rattle.hf_app.specs.Due.{Due, IsDueOf, IsDueOfFile, IsDueOfEdits, answered, due_of_rows}
 use Rattle.hf_app.specs.Edits.{unless, stepped}
 use Rattle.hf_app.specs.Items.{store_at}
-use Rattle.hf_app.specs.Words.{Command, Boxes, EditFile}
-use Rattle.hf_app.specs.declared.outcome.Outcome.TheVariants.{Unfit, Refused, TooLong}
+use Rattle.hf_text.specs.Words.{Command, Boxes, EditFile}
+use Rattle.hf_text.specs.declared.outcome.Outcome.TheVariants.{Unfit, Refused, TooLong}
 use Rattle.hf_app.proofs.Denoting.{canon_denotes}
 use Rattle.hf_app.proofs.DenotesLaws.{fault_none}
 use Rattle.hf_app.proofs.DueLaws.{Stepped, made}
