@@ -55,7 +55,8 @@ there (Some x) none = (x, refl)
 
 -- ---- one extent
 
-pub piece_fits : (base : ℕ) (e : Extent) (source : List ℕ) → nat_lt (length source) (base + e.offset + e.length) ≡ false → (p : List ℕ) × (piece_of base e (Some source) ≡ Some p) × (length p ≡ (if e.length == 0 then length source else e.length))
+pub piece_fits : (base : ℕ) (e : Extent) (source : List ℕ) → nat_lt (length source) (base + e.offset + e.length) ≡ false
+    → (p : List ℕ) × (piece_of base e (Some source) ≡ Some p) × (length p ≡ (if e.length == 0 then length source else e.length))
 piece_fits base e source within = elim (cases_Bool (e.length == 0)) [
   | inl whole ↦ (source, rw whole refl, rw whole refl)
   | inr part ↦ (
@@ -66,7 +67,8 @@ piece_fits base e source within = elim (cases_Bool (e.length == 0)) [
 ]
 
 -- where a source is known, an extent that does not pass its end has a piece
-pub extent_fits : (base : ℕ) (e : Extent) (o : Option (List ℕ)) (source : List ℕ) (size : ℕ) → o ≡ Some source → length source ≡ size → nat_lt size (base + e.offset + e.length) ≡ false
+pub extent_fits : (base : ℕ) (e : Extent) (o : Option (List ℕ)) (source : List ℕ) (size : ℕ) → o ≡ Some source → length source ≡ size
+    → nat_lt size (base + e.offset + e.length) ≡ false
     → (p : List ℕ) × (piece_of base e o ≡ Some p) × (length p ≡ (if e.length == 0 then size else e.length))
 extent_fits base e o source size known is within =
     let found = piece_fits base e source (ap (λ n. nat_lt n (base + e.offset + e.length)) is ∙ within) in
@@ -74,7 +76,8 @@ extent_fits base e o source size known is within =
 
 -- ---- all extents
 
-pub joined_there : (f : Extent → Option (List ℕ)) (g : Extent → ℕ) (es : List Extent) → ((e : Extent) → IsIn e es → (p : List ℕ) × (f e ≡ Some p) × (length p ≡ g e))
+pub joined_there : (f : Extent → Option (List ℕ)) (g : Extent → ℕ) (es : List Extent)
+    → ((e : Extent) → IsIn e es → (p : List ℕ) × (f e ≡ Some p) × (length p ≡ g e))
     → (b : List ℕ) × (joined_pieces (map f es) ≡ Some b) × (length b ≡ sum (map g es))
 joined_there f g [] each = ([], refl, refl)
 joined_there f g (e ∷ es) each =
@@ -131,7 +134,8 @@ idat_there None none = absurd (cc)
 idat_there (Some inner) none = (inner, refl, refl)
 
 -- the piece of an extent, where the bytes of the other items are there and as many as stated
-part_there : (F : List ℕ) (idat : Option (List ℕ)) (items : List Located) (r : Located) (e : Extent) (other : Located → Option (List ℕ)) (size : Located → ℕ) → IsFine F idat items r → IsIn e r.extents
+part_there : (F : List ℕ) (idat : Option (List ℕ)) (items : List Located) (r : Located) (e : Extent) (other : Located → Option (List ℕ)) (size : Located → ℕ)
+    → IsFine F idat items r → IsIn e r.extents
     → ((r.method == 2) ≡ true → (s : Located) → source_of items r e ≡ Some s → (b : List ℕ) × (other s ≡ Some b) × (length b ≡ size s) × (size s ≡ size_of (length F) (inner_size idat) items s))
     → (p : List ℕ) × (piece_in F idat items other r e ≡ Some p) × (length p ≡ extent_size (length F) (inner_size idat) items size r e)
 part_there F idat items r e other size fine is sources = elim (cases_Bool (r.method == 2)) [
@@ -139,10 +143,14 @@ part_there F idat items r e other size fine is sources = elim (cases_Bool (r.met
       let named = any_not (λ (x : Extent). is_none (source_of items r x)) r.extents e (second (r.method == 2) _ fine.named two) is in
       let s = there (source_of items r e) named in
       let known = sources two s.0 s.1 in
-      let within : passes (told 0 (size_of (length F) (inner_size idat) items) (source_of items r e)) r e ≡ false = any_not (λ (x : Extent). passes (told 0 (size_of (length F) (inner_size idat) items) (source_of items r x)) r x) r.extents e (second (r.method == 2) _ fine.in_items two) is in
-      let within_s : nat_lt (size s.0) (r.base + e.offset + e.length) ≡ false = ap (λ n. nat_lt n (r.base + e.offset + e.length)) (known.3 ∙ ap (told 0 (size_of (length F) (inner_size idat) items)) (sym s.1)) ∙ within in
-      let o : by_method r.method (Some F) idat (told None other (source_of items r e)) ≡ Some known.0 = by_item r.method (Some F) idat _ two ∙ ap (told None other) s.1 ∙ known.1 in
-      let n : by_method r.method (length F) (inner_size idat) (told 0 size (source_of items r e)) ≡ size s.0 = by_item r.method (length F) (inner_size idat) _ two ∙ ap (told 0 size) s.1 in
+      let within : passes (told 0 (size_of (length F) (inner_size idat) items) (source_of items r e)) r e ≡ false =
+      any_not (λ (x : Extent). passes (told 0 (size_of (length F) (inner_size idat) items) (source_of items r x)) r x) r.extents e (second (r.method == 2) _ fine.in_items two) is in
+      let within_s : nat_lt (size s.0) (r.base + e.offset + e.length) ≡ false =
+      ap (λ n. nat_lt n (r.base + e.offset + e.length)) (known.3 ∙ ap (told 0 (size_of (length F) (inner_size idat) items)) (sym s.1)) ∙ within in
+      let o : by_method r.method (Some F) idat (told None other (source_of items r e)) ≡ Some known.0 = by_item r.method (Some F) idat _ two
+      ∙ ap (told None other) s.1 ∙ known.1 in
+      let n : by_method r.method (length F) (inner_size idat) (told 0 size (source_of items r e)) ≡ size s.0 =
+      by_item r.method (length F) (inner_size idat) _ two ∙ ap (told 0 size) s.1 in
       let found = extent_fits r.base e _ known.0 (size s.0) o known.2 within_s in
       (found.0, found.1, found.2 ∙ ap (λ k. if e.length == 0 then k else e.length) (sym n))
       )
@@ -151,7 +159,8 @@ part_there F idat items r e other size fine is sources = elim (cases_Bool (r.met
         let inner = idat_there idat (second (has_extents r.extents) (is_none idat) (second (r.method == 1) _ fine.inner one) (not_empty e r.extents is)) in
         let within : passes (inner_size idat) r e ≡ false = any_not (passes (inner_size idat) r) r.extents e (second (r.method == 1) _ fine.in_idat one) is in
         let o : by_method r.method (Some F) idat (told None other (source_of items r e)) ≡ Some inner.0 = by_idat r.method (Some F) idat _ two one ∙ inner.1 in
-        let n : by_method r.method (length F) (inner_size idat) (told 0 size (source_of items r e)) ≡ inner_size idat = by_idat r.method (length F) (inner_size idat) _ two one in
+        let n : by_method r.method (length F) (inner_size idat) (told 0 size (source_of items r e)) ≡ inner_size idat =
+        by_idat r.method (length F) (inner_size idat) _ two one in
         let found = extent_fits r.base e _ inner.0 (inner_size idat) o inner.2 within in
         (found.0, found.1, found.2 ∙ ap (λ k. if e.length == 0 then k else e.length) (sym n))
         )
@@ -160,14 +169,16 @@ part_there F idat items r e other size fine is sources = elim (cases_Bool (r.met
         let zero_method : (r.method == 0) ≡ true = grind (arith, nat_tests) in
         let within : passes (length F) r e ≡ false = any_not (passes (length F) r) r.extents e (second (r.method == 0) _ fine.in_file zero_method) is in
         let o : by_method r.method (Some F) idat (told None other (source_of items r e)) ≡ Some F = by_file r.method (Some F) idat _ two one in
-        let n : by_method r.method (length F) (inner_size idat) (told 0 size (source_of items r e)) ≡ length F = by_file r.method (length F) (inner_size idat) _ two one in
+        let n : by_method r.method (length F) (inner_size idat) (told 0 size (source_of items r e)) ≡ length F =
+        by_file r.method (length F) (inner_size idat) _ two one in
         let found = extent_fits r.base e _ F (length F) o refl within in
         (found.0, found.1, found.2 ∙ ap (λ k. if e.length == 0 then k else e.length) (sym n))
         )
   ]
 ]
 
-levels_there : (F : List ℕ) (idat : Option (List ℕ)) (items : List Located) → AreFine F idat items → (n : ℕ) (r : Located) → IsIn r items → over false (ends_in items) n r ≡ true → n ≤ suc (length items)
+levels_there : (F : List ℕ) (idat : Option (List ℕ)) (items : List Located) → AreFine F idat items → (n : ℕ) (r : Located) → IsIn r items
+    → over false (ends_in items) n r ≡ true → n ≤ suc (length items)
     → (b : List ℕ) × (over None (bytes_in F idat items) n r ≡ Some b) × (length b ≡ over 0 (size_in (length F) (inner_size idat) items) n r)
 unfolding over size_of
 levels_there F idat items fine zero r is end few = absurd (false≢true end)

@@ -44,7 +44,8 @@ false_if_not : (b : Bool) → (b ≡ true → ⊥) → b ≡ false
 false_if_not false not_true = refl
 false_if_not true not_true = absurd (not_true refl)
 
-pub no_bytes : (F : List ℕ) (idat : Option (List ℕ)) (items : List Located) (walk : ℕ → Located) → IsEndlessChain items walk → (levels : ℕ) → bytes_at levels F idat items (walk 0) ≡ None
+pub no_bytes : (F : List ℕ) (idat : Option (List ℕ)) (items : List Located) (walk : ℕ → Located) → IsEndlessChain items walk → (levels : ℕ)
+    → bytes_at levels F idat items (walk 0) ≡ None
 unfolding over
 no_bytes F idat items walk endless levels =
     none_if_not (bytes_at levels F idat items (walk 0)) (λ b there. not_ended items walk endless (suc levels) 0 (levels_back F idat items (suc levels) (walk 0) b there).0)
@@ -53,7 +54,8 @@ pub never_ends : (items : List Located) (walk : ℕ → Located) → IsEndlessCh
 unfolding over ends
 never_ends items walk endless = false_if_not (ends items (walk 0)) (λ e. not_ended items walk endless (suc (length items)) 0 e)
 
-pub refused_chain : (F : List ℕ) (idat : Option (List ℕ)) (items : List Located) (walk : ℕ → Located) → IsEndlessChain items walk → IsIn (walk 0) items → ¬ (locations_fault F idat items ≡ Ok tt)
+pub refused_chain : (F : List ℕ) (idat : Option (List ℕ)) (items : List Located) (walk : ℕ → Located) → IsEndlessChain items walk → IsIn (walk 0) items
+    → ¬ (locations_fault F idat items ≡ Ok tt)
 refused_chain F idat items walk endless is fine =
     let found = bytes_there F idat items (walk 0) fine is in
     let ending = bytes_end F idat items (walk 0) found.0 found.1 in

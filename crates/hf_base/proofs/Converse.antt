@@ -58,16 +58,19 @@ later_part : (q b : List ℕ) (o : Option (List ℕ)) → option_map (λ (rest :
 later_part q b None e = absurd (cc)
 later_part q b (Some r) e = (r, refl, cc)
 
-first_part : (o : Option (List ℕ)) (ps : List (Option (List ℕ))) (b : List ℕ) → joined_pieces (o ∷ ps) ≡ Some b → (q : List ℕ) × (r : List ℕ) × (o ≡ Some q) × (joined_pieces ps ≡ Some r) × (q ++ r ≡ b)
+first_part : (o : Option (List ℕ)) (ps : List (Option (List ℕ))) (b : List ℕ) → joined_pieces (o ∷ ps) ≡ Some b
+    → (q : List ℕ) × (r : List ℕ) × (o ≡ Some q) × (joined_pieces ps ≡ Some r) × (q ++ r ≡ b)
 first_part None ps b e = absurd (cc)
 first_part (Some q) ps b e = let rest = later_part q b (joined_pieces ps) e in (q, rest.0, refl, rest.1, rest.2)
 
-pub each_there : (f : Extent → Option (List ℕ)) (es : List Extent) (b : List ℕ) → joined_pieces (map f es) ≡ Some b → (e : Extent) → IsIn e es → (p : List ℕ) × (f e ≡ Some p)
+pub each_there : (f : Extent → Option (List ℕ)) (es : List Extent) (b : List ℕ) → joined_pieces (map f es) ≡ Some b → (e : Extent) → IsIn e es
+    → (p : List ℕ) × (f e ≡ Some p)
 each_there f [] b whole e is = absurd is
 each_there f (x ∷ xs) b whole e (inl same) = let w = first_part (f x) (map f xs) b whole in (w.0, ap f (sym same) ∙ w.2)
 each_there f (x ∷ xs) b whole e (inr is) = let w = first_part (f x) (map f xs) b whole in each_there f xs w.1 w.3 e is
 
-whole_size : (f : Extent → Option (List ℕ)) (g : Extent → ℕ) (es : List Extent) (b : List ℕ) → joined_pieces (map f es) ≡ Some b → ((e : Extent) → IsIn e es → (p : List ℕ) → f e ≡ Some p → length p ≡ g e) → length b ≡ sum (map g es)
+whole_size : (f : Extent → Option (List ℕ)) (g : Extent → ℕ) (es : List Extent) (b : List ℕ) → joined_pieces (map f es) ≡ Some b
+    → ((e : Extent) → IsIn e es → (p : List ℕ) → f e ≡ Some p → length p ≡ g e) → length b ≡ sum (map g es)
 whole_size f g [] b whole each = ap length (sym (same_list [] b whole))
 whole_size f g (x ∷ xs) b whole each =
     let w = first_part (f x) (map f xs) b whole in
@@ -77,7 +80,8 @@ whole_size f g (x ∷ xs) b whole each =
 
 -- ---- levels
 
-told_back : (other : Located → Option (List ℕ)) (o : Option Located) (b : List ℕ) → told None other o ≡ Some b → (s : Located) × (o ≡ Some s) × (other s ≡ Some b)
+told_back : (other : Located → Option (List ℕ)) (o : Option Located) (b : List ℕ) → told None other o ≡ Some b
+    → (s : Located) × (o ≡ Some s) × (other s ≡ Some b)
 told_back other None b e = absurd (cc)
 told_back other (Some s) b e = (s, refl, e)
 
@@ -99,7 +103,8 @@ inner_is (Some inner) b e = ap length (sym (same_list inner b e))
 
 -- how many bytes the source of an extent has
 source_is : (F : List ℕ) (idat : Option (List ℕ)) (items : List Located) (r : Located) (e : Extent) (other : Located → Option (List ℕ)) (size : Located → ℕ) (source : List ℕ) → by_method r.method (Some F) idat (told None other (source_of items r e)) ≡ Some source
-    → ((s : Located) → source_of items r e ≡ Some s → (b : List ℕ) → other s ≡ Some b → length b ≡ size s) → length source ≡ by_method r.method (length F) (inner_size idat) (told 0 size (source_of items r e))
+    → ((s : Located) → source_of items r e ≡ Some s → (b : List ℕ) → other s ≡ Some b → length b ≡ size s)
+    → length source ≡ by_method r.method (length F) (inner_size idat) (told 0 size (source_of items r e))
 source_is F idat items r e other size source is sizes = elim (cases_Bool (r.method == 2)) [
   | inl two ↦ (
       let s = told_back other (source_of items r e) source (sym (in_other r.method (Some F) idat _ two) ∙ is) in
@@ -111,7 +116,8 @@ source_is F idat items r e other size source is sizes = elim (cases_Bool (r.meth
   ]
 ]
 
-pub levels_back : (F : List ℕ) (idat : Option (List ℕ)) (items : List Located) (n : ℕ) (r : Located) (b : List ℕ) → over None (bytes_in F idat items) n r ≡ Some b
+pub levels_back : (F : List ℕ) (idat : Option (List ℕ)) (items : List Located) (n : ℕ) (r : Located) (b : List ℕ)
+    → over None (bytes_in F idat items) n r ≡ Some b
     → (over false (ends_in items) n r ≡ true) × (length b ≡ over 0 (size_in (length F) (inner_size idat) items) n r)
 unfolding over
 levels_back F idat items zero r b there = absurd (cc)
@@ -137,7 +143,8 @@ pub bytes_end : (F : List ℕ) (idat : Option (List ℕ)) (items : List Located)
 unfolding over bytes_of ends
 bytes_end F idat items r b there = (levels_back F idat items (suc (length items)) r b there).0
 
-pub bytes_size : (F : List ℕ) (idat : Option (List ℕ)) (items : List Located) (r : Located) (b : List ℕ) → bytes_of F idat items r ≡ Some b → length b ≡ size_of (length F) (inner_size idat) items r
+pub bytes_size : (F : List ℕ) (idat : Option (List ℕ)) (items : List Located) (r : Located) (b : List ℕ) → bytes_of F idat items r ≡ Some b
+    → length b ≡ size_of (length F) (inner_size idat) items r
 unfolding over bytes_of size_of
 bytes_size F idat items r b there = (levels_back F idat items (suc (length items)) r b there).1
 
@@ -165,12 +172,14 @@ whole_then true false e held = absurd (false≢true (sym e))
 whole_then false b e held = absurd (false≢true held)
 
 -- an extent does not pass the end of its source
-inside : (F : List ℕ) (idat : Option (List ℕ)) (items : List Located) (r : Located) → IsPlaced F idat items r → (e : Extent) → IsIn e r.extents → (source : List ℕ) → ((e.length == 0) ≡ false → nat_lt (length source) (r.base + e.offset + e.length) ≡ false) → passes (length source) r e ≡ false
+inside : (F : List ℕ) (idat : Option (List ℕ)) (items : List Located) (r : Located) → IsPlaced F idat items r → (e : Extent) → IsIn e r.extents
+    → (source : List ℕ) → ((e.length == 0) ≡ false → nat_lt (length source) (r.base + e.offset + e.length) ≡ false) → passes (length source) r e ≡ false
 inside F idat items r placed e is source within = elim (cases_Bool (e.length == 0)) [
   | inl zero_long ↦ (
       let ok : ((e.length == 0) && not (is_whole r e)) ≡ false = any_not (λ (x : Extent). (x.length == 0) && not (is_whole r x)) r.extents e placed.whole is in
       let whole : is_whole r e ≡ true = whole_then (e.length == 0) (is_whole r e) ok zero_long in
-      let start : (r.base + e.offset == 0) ≡ true = (and_parts (length r.extents == 1) (r.base + e.offset == 0) (and_parts _ ((length r.extents == 1) && (r.base + e.offset == 0)) whole).1).1 in
+      let start : (r.base + e.offset == 0) ≡ true =
+      (and_parts (length r.extents == 1) (r.base + e.offset == 0) (and_parts _ ((length r.extents == 1) && (r.base + e.offset == 0)) whole).1).1 in
       le-ltb (length source) (r.base + e.offset + e.length) (grind (arith, nat_tests))
       )
   | inr part ↦ within part
@@ -218,11 +227,13 @@ idat_fine F idat items r placed = where_first (r.method == 1) _ (λ one. any_non
     let there : idat ≡ Some part.source = sym (in_idat r.method (Some F) idat _ (one_of r.method one) one) ∙ part.is in
     ap (λ n. passes n r e) (sym (inner_is idat part.source there)) ∙ inside F idat items r placed e is part.source part.within))
 
-items_fine : (F : List ℕ) (idat : Option (List ℕ)) (items : List Located) (r : Located) → IsPlaced F idat items r → is_out_of_item (length F) (inner_size idat) items r ≡ false
+items_fine : (F : List ℕ) (idat : Option (List ℕ)) (items : List Located) (r : Located) → IsPlaced F idat items r
+    → is_out_of_item (length F) (inner_size idat) items r ≡ false
 items_fine F idat items r placed = where_first (r.method == 2) _ (λ two. any_none (λ (e : Extent). passes (told 0 (size_of (length F) (inner_size idat) items) (source_of items r e)) r e) r.extents (λ e is.
     let part = (part_of F idat items r placed e is).1 in
     let s = told_back (bytes_of F idat items) (source_of items r e) part.source (sym (in_other r.method (Some F) idat _ two) ∙ part.is) in
-    let n : told 0 (size_of (length F) (inner_size idat) items) (source_of items r e) ≡ length part.source = ap (told 0 (size_of (length F) (inner_size idat) items)) s.1 ∙ sym (bytes_size F idat items s.0 part.source s.2) in
+    let n : told 0 (size_of (length F) (inner_size idat) items) (source_of items r e) ≡ length part.source =
+    ap (told 0 (size_of (length F) (inner_size idat) items)) s.1 ∙ sym (bytes_size F idat items s.0 part.source s.2) in
     ap (λ k. passes k r e) n ∙ inside F idat items r placed e is part.source part.within))
 
 pub no_fault : (F : List ℕ) (idat : Option (List ℕ)) (items : List Located) → ArePlaced F idat items → locations_fault F idat items ≡ Ok tt

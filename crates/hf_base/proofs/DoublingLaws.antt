@@ -65,14 +65,16 @@ no_later inner long zero id less = refl
 no_later inner long (suc n) id less =
     let is = id_is inner long n in
     let other : ((doubled_item inner long n).id == id) ≡ false = grind (arith, nat_tests) in
-    with_back id (doubled inner long n) (doubled_item inner long n ∷ []) (no_later inner long n id (omega arith)) ∙ only_other id (doubled_item inner long n) other
+    with_back id (doubled inner long n) (doubled_item inner long n ∷ []) (no_later inner long n id (omega arith))
+    ∙ only_other id (doubled_item inner long n) other
 
 last_at : (inner : Bool) (long : ℕ → ℕ) (n : ℕ) → item_with (suc n) (doubled inner long (suc n)) ≡ Some (doubled_item inner long n)
 unfolding doubled
 last_at inner long n =
     let is = id_is inner long n in
     let same : ((doubled_item inner long n).id == suc n) ≡ true = grind (arith, nat_tests) in
-    with_back (suc n) (doubled inner long n) (doubled_item inner long n ∷ []) (no_later inner long n (suc n) (omega arith)) ∙ only_same (suc n) (doubled_item inner long n) same
+    with_back (suc n) (doubled inner long n) (doubled_item inner long n ∷ []) (no_later inner long n (suc n) (omega arith))
+    ∙ only_same (suc n) (doubled_item inner long n) same
 
 pub doubled_at : (inner : Bool) (long : ℕ → ℕ) (n k : ℕ) → k < n → item_with (suc k) (doubled inner long n) ≡ Some (doubled_item inner long k)
 unfolding doubled
@@ -97,7 +99,8 @@ doubled_in inner long (suc n) r is = elim (in_joined r (doubled inner long n) (d
   | inr last ↦ elim last [ inl same ↦ (n, (omega arith), same) | inr none ↦ absurd none ]
 ]
 
-none_of : (has : Located → Bool) (why : ℕ → ReadRefusal) (inner : Bool) (long : ℕ → ℕ) (n : ℕ) → ((k : ℕ) → k < n → has (doubled_item inner long k) ≡ false) → refused why (first_with has (doubled inner long n)) ≡ Ok tt
+none_of : (has : Located → Bool) (why : ℕ → ReadRefusal) (inner : Bool) (long : ℕ → ℕ) (n : ℕ) → ((k : ℕ) → k < n → has (doubled_item inner long k) ≡ false)
+    → refused why (first_with has (doubled inner long n)) ≡ Ok tt
 none_of has why inner long n each =
     none_refused has why (doubled inner long n) (λ r is.
     let found = doubled_in inner long n r is in
@@ -111,14 +114,16 @@ twice k =
     let none : sum [] ≡ 0 = refl in
     omega (arith, one, two, none, p)
 
-total : (f : Located → ℕ) (inner : Bool) (long : ℕ → ℕ) (n : ℕ) → ((k : ℕ) → k < n → f (doubled_item inner long k) ≡ 2 ^ k) → sum (map f (doubled inner long n)) + 1 ≡ 2 ^ n
+total : (f : Located → ℕ) (inner : Bool) (long : ℕ → ℕ) (n : ℕ) → ((k : ℕ) → k < n → f (doubled_item inner long k) ≡ 2 ^ k)
+    → sum (map f (doubled inner long n)) + 1 ≡ 2 ^ n
 unfolding doubled
 total f inner long zero each = refl
 total f inner long (suc n) each =
     let earlier = total f inner long n (λ k less. each k (omega arith)) in
     let last : f (doubled_item inner long n) ≡ 2 ^ n = each n (omega arith) in
     let parts : sum (map f (doubled inner long n ++ doubled_item inner long n ∷ [])) ≡ sum (map f (doubled inner long n)) + sum (f (doubled_item inner long n) ∷ []) =
-    ap sum (map-append f (doubled inner long n) (doubled_item inner long n ∷ [])) ∙ sum_by-append (λ m. m) (map f (doubled inner long n)) (f (doubled_item inner long n) ∷ []) in
+    ap sum (map-append f (doubled inner long n) (doubled_item inner long n ∷ []))
+    ∙ sum_by-append (λ m. m) (map f (doubled inner long n)) (f (doubled_item inner long n) ∷ []) in
     let one : sum (f (doubled_item inner long n) ∷ []) ≡ f (doubled_item inner long n) + sum [] = sum_by-cons (λ m. m) (f (doubled_item inner long n)) [] in
     let none : sum [] ≡ 0 = refl in
     let p = pow-suc 2 n in
@@ -130,26 +135,30 @@ ends_first : (inner : Bool) (items : List Located) (other : Located → Bool) �
 ends_first true items other = refl
 ends_first false items other = refl
 
-ends_at : (inner : Bool) (long : ℕ → ℕ) (n levels k : ℕ) → k < levels → k < n → over false (ends_in (doubled inner long n)) levels (doubled_item inner long k) ≡ true
+ends_at : (inner : Bool) (long : ℕ → ℕ) (n levels k : ℕ) → k < levels → k < n
+    → over false (ends_in (doubled inner long n)) levels (doubled_item inner long k) ≡ true
 unfolding over
 ends_at inner long n zero k deep less = absurd (omega arith)
 ends_at inner long n (suc m) zero deep less = ends_first inner (doubled inner long n) (over false (ends_in (doubled inner long n)) m)
 ends_at inner long n (suc m) (suc k) deep less =
     let one : told false (over false (ends_in (doubled inner long n)) m) (item_with (suc k) (doubled inner long n)) ≡ true =
-    ap (told false (over false (ends_in (doubled inner long n)) m)) (doubled_at inner long n k (omega arith)) ∙ ends_at inner long n m k (omega arith) (omega arith) in
+    ap (told false (over false (ends_in (doubled inner long n)) m)) (doubled_at inner long n k (omega arith))
+    ∙ ends_at inner long n m k (omega arith) (omega arith) in
     ap (λ (b : Bool). b && (b && true)) one
 
 leaves_first : (inner : Bool) (items : List Located) (other : Located → ℕ) → leaves_in items other (first_item inner) ≡ 1
 leaves_first true items other = refl
 leaves_first false items other = refl
 
-leaves_at : (inner : Bool) (long : ℕ → ℕ) (n levels k : ℕ) → k < levels → k < n → over 0 (leaves_in (doubled inner long n)) levels (doubled_item inner long k) ≡ 2 ^ k
+leaves_at : (inner : Bool) (long : ℕ → ℕ) (n levels k : ℕ) → k < levels → k < n
+    → over 0 (leaves_in (doubled inner long n)) levels (doubled_item inner long k) ≡ 2 ^ k
 unfolding over
 leaves_at inner long n zero k deep less = absurd (omega arith)
 leaves_at inner long n (suc m) zero deep less = leaves_first inner (doubled inner long n) (over 0 (leaves_in (doubled inner long n)) m)
 leaves_at inner long n (suc m) (suc k) deep less =
     let one : told 0 (over 0 (leaves_in (doubled inner long n)) m) (item_with (suc k) (doubled inner long n)) ≡ 2 ^ k =
-    ap (told 0 (over 0 (leaves_in (doubled inner long n)) m)) (doubled_at inner long n k (omega arith)) ∙ leaves_at inner long n m k (omega arith) (omega arith) in
+    ap (told 0 (over 0 (leaves_in (doubled inner long n)) m)) (doubled_at inner long n k (omega arith))
+    ∙ leaves_at inner long n m k (omega arith) (omega arith) in
     ap (λ (x : ℕ). sum (x ∷ x ∷ [])) one ∙ twice k
 
 length_is : (inner : Bool) (long : ℕ → ℕ) (n : ℕ) → length (doubled inner long n) ≡ n
@@ -197,7 +206,8 @@ not_empty inner long (suc k) some =
     let not_zero : (long k == 0) ≡ false = grind (arith, nat_tests) in
     rw not_zero refl
 
-has_idat : (idat : Option (List ℕ)) (inner : Bool) (long : ℕ → ℕ) (k : ℕ) → lacks_idat idat (first_item inner) ≡ false → lacks_idat idat (doubled_item inner long k) ≡ false
+has_idat : (idat : Option (List ℕ)) (inner : Bool) (long : ℕ → ℕ) (k : ℕ) → lacks_idat idat (first_item inner) ≡ false
+    → lacks_idat idat (doubled_item inner long k) ≡ false
 has_idat idat inner long zero there = there
 has_idat idat inner long (suc k) there = refl
 
@@ -211,11 +221,13 @@ good_index inner long n (suc k) less =
 not_endless : (inner : Bool) (long : ℕ → ℕ) (n k : ℕ) → k < n → is_endless (doubled inner long n) (doubled_item inner long k) ≡ false
 not_endless inner long n k less = ap (λ (b : Bool). not b) (item_ends inner long n k less)
 
-in_the_file : (len : ℕ) (inner : Bool) (long : ℕ → ℕ) (k : ℕ) → is_out_of_file len (first_item inner) ≡ false → is_out_of_file len (doubled_item inner long k) ≡ false
+in_the_file : (len : ℕ) (inner : Bool) (long : ℕ → ℕ) (k : ℕ) → is_out_of_file len (first_item inner) ≡ false
+    → is_out_of_file len (doubled_item inner long k) ≡ false
 in_the_file len inner long zero first = first
 in_the_file len inner long (suc k) first = refl
 
-in_the_idat : (size : ℕ) (inner : Bool) (long : ℕ → ℕ) (k : ℕ) → is_out_of_idat size (first_item inner) ≡ false → is_out_of_idat size (doubled_item inner long k) ≡ false
+in_the_idat : (size : ℕ) (inner : Bool) (long : ℕ → ℕ) (k : ℕ) → is_out_of_idat size (first_item inner) ≡ false
+    → is_out_of_idat size (doubled_item inner long k) ≡ false
 in_the_idat size inner long zero first = first
 in_the_idat size inner long (suc k) first = refl
 
@@ -226,7 +238,8 @@ next a b fine = rw fine refl
 abbrev pub later_fault : List ℕ → Option (List ℕ) → List Located → Result (Unit {0}) ReadRefusal
 later_fault F idat items = out_of_idat_fault idat items >>= λ x. too_scattered_fault items >>= λ y. out_of_item_fault F idat items >>= λ z. too_many_bytes_fault F idat items
 
-pub seven_fine : (F : List ℕ) (idat : Option (List ℕ)) (inner : Bool) (long : ℕ → ℕ) (n : ℕ) → Begins F idat inner long → locations_fault F idat (doubled inner long n) ≡ later_fault F idat (doubled inner long n)
+pub seven_fine : (F : List ℕ) (idat : Option (List ℕ)) (inner : Bool) (long : ℕ → ℕ) (n : ℕ) → Begins F idat inner long
+    → locations_fault F idat (doubled inner long n) ≡ later_fault F idat (doubled inner long n)
 unfolding locations_fault external_fault bad_method_fault zero_length_fault no_idat_fault bad_index_fault loc_cycle_fault out_of_file_fault
 seven_fine F idat inner long n begins =
     let items = doubled inner long n in
@@ -238,7 +251,8 @@ seven_fine F idat inner long n begins =
     ∙ next _ _ (none_of (is_endless items) (λ id. LocCycle id) inner long n (not_endless inner long n))
     ∙ next _ _ (none_of (is_out_of_file (length F)) (λ id. OutOfFile id) inner long n (λ k _. in_the_file (length F) inner long k begins.in_file))
 
-in_idat_fine : (idat : Option (List ℕ)) (inner : Bool) (long : ℕ → ℕ) (n : ℕ) → is_out_of_idat (inner_size idat) (first_item inner) ≡ false → out_of_idat_fault idat (doubled inner long n) ≡ Ok tt
+in_idat_fine : (idat : Option (List ℕ)) (inner : Bool) (long : ℕ → ℕ) (n : ℕ) → is_out_of_idat (inner_size idat) (first_item inner) ≡ false
+    → out_of_idat_fault idat (doubled inner long n) ≡ Ok tt
 unfolding out_of_idat_fault
 in_idat_fine idat inner long n first = none_of (is_out_of_idat (inner_size idat)) (λ id. OutOfIdat id) inner long n (λ k _. in_the_idat (inner_size idat) inner long k first)
 
@@ -248,14 +262,16 @@ past_limit most total why more = let t : nat_lt most total ≡ true = lt-ltb mos
 stops : (a b : Result (Unit {0}) ReadRefusal) (why : ReadRefusal) → a ≡ Err why → (a >>= λ x. b) ≡ Err why
 stops a b why e = rw e refl
 
-scattered : (inner : Bool) (long : ℕ → ℕ) (n : ℕ) → PIECES < 2 ^ n - 1 → too_scattered_fault (doubled inner long n) ≡ Err (TooScattered (min (2 ^ n - 1) (2 ^ 64 - 1)))
+scattered : (inner : Bool) (long : ℕ → ℕ) (n : ℕ) → PIECES < 2 ^ n - 1
+    → too_scattered_fault (doubled inner long n) ≡ Err (TooScattered (min (2 ^ n - 1) (2 ^ 64 - 1)))
 unfolding too_scattered_fault
 scattered inner long n more =
     let all = all_leaves inner long n in
     let is : sum (map (leaves_of (doubled inner long n)) (doubled inner long n)) ≡ 2 ^ n - 1 = omega (arith, all) in
     ap (limited PIECES (λ count. TooScattered count)) is ∙ past_limit PIECES (2 ^ n - 1) (λ count. TooScattered count) more
 
-pub too_many_leaves : (F : List ℕ) (idat : Option (List ℕ)) (inner : Bool) (long : ℕ → ℕ) (n : ℕ) → Begins F idat inner long → is_out_of_idat (inner_size idat) (first_item inner) ≡ false → PIECES < 2 ^ n - 1
+pub too_many_leaves : (F : List ℕ) (idat : Option (List ℕ)) (inner : Bool) (long : ℕ → ℕ) (n : ℕ) → Begins F idat inner long
+    → is_out_of_idat (inner_size idat) (first_item inner) ≡ false → PIECES < 2 ^ n - 1
     → locations_fault F idat (doubled inner long n) ≡ Err (TooScattered (min (2 ^ n - 1) (2 ^ 64 - 1)))
 too_many_leaves F idat inner long n begins first more =
     seven_fine F idat inner long n begins ∙ next _ _ (in_idat_fine idat inner long n first) ∙ stops _ _ _ (scattered inner long n more)
@@ -269,7 +285,8 @@ size_first false len size items other = refl
 power_some : (k : ℕ) → (2 ^ k == 0) ≡ false
 power_some k = let p = pow_pos k in grind (arith, nat_tests)
 
-size_at : (len size : ℕ) (inner : Bool) (n levels k : ℕ) → k < levels → k < n → over 0 (size_in len size (doubled inner (λ j. 2 ^ j) n)) levels (doubled_item inner (λ j. 2 ^ j) k) ≡ 2 ^ k
+size_at : (len size : ℕ) (inner : Bool) (n levels k : ℕ) → k < levels → k < n
+    → over 0 (size_in len size (doubled inner (λ j. 2 ^ j) n)) levels (doubled_item inner (λ j. 2 ^ j) k) ≡ 2 ^ k
 unfolding over
 size_at len size inner n zero k deep less = absurd (omega arith)
 size_at len size inner n (suc m) zero deep less = size_first inner len size (doubled inner (λ j. 2 ^ j) n) (over 0 (size_in len size (doubled inner (λ j. 2 ^ j) n)) m)
@@ -281,16 +298,19 @@ item_size len size inner n k less =
     let count = length_is inner (λ j. 2 ^ j) n in
     size_at len size inner n (suc (length (doubled inner (λ j. 2 ^ j) n))) k (omega (arith, count)) less
 
-in_the_item : (len size : ℕ) (inner : Bool) (n k : ℕ) → k < n → is_out_of_item len size (doubled inner (λ j. 2 ^ j) n) (doubled_item inner (λ j. 2 ^ j) k) ≡ false
+in_the_item : (len size : ℕ) (inner : Bool) (n k : ℕ) → k < n
+    → is_out_of_item len size (doubled inner (λ j. 2 ^ j) n) (doubled_item inner (λ j. 2 ^ j) k) ≡ false
 in_the_item len size true n zero less = refl
 in_the_item len size false n zero less = refl
 in_the_item len size inner n (suc k) less =
     let items = doubled inner (λ j. 2 ^ j) n in
-    let source : told 0 (size_of len size items) (item_with (suc k) items) ≡ 2 ^ k = ap (told 0 (size_of len size items)) (doubled_at inner (λ j. 2 ^ j) n k (omega arith)) ∙ item_size len size inner n k (omega arith) in
+    let source : told 0 (size_of len size items) (item_with (suc k) items) ≡ 2 ^ k =
+    ap (told 0 (size_of len size items)) (doubled_at inner (λ j. 2 ^ j) n k (omega arith)) ∙ item_size len size inner n k (omega arith) in
     let fits : nat_lt (told 0 (size_of len size items) (item_with (suc k) items)) (0 + 0 + 2 ^ k) ≡ false = le-ltb _ _ (omega (arith, source)) in
     ap (λ (b : Bool). b || (b || false)) fits
 
-pub few_leaves : (F : List ℕ) (idat : Option (List ℕ)) (inner : Bool) (n : ℕ) → lacks_idat idat (first_item inner) ≡ false → is_out_of_file (length F) (first_item inner) ≡ false → is_out_of_idat (inner_size idat) (first_item inner) ≡ false
+pub few_leaves : (F : List ℕ) (idat : Option (List ℕ)) (inner : Bool) (n : ℕ) → lacks_idat idat (first_item inner) ≡ false
+    → is_out_of_file (length F) (first_item inner) ≡ false → is_out_of_idat (inner_size idat) (first_item inner) ≡ false
     → 2 ^ n - 1 ≤ PIECES → locations_fault F idat (doubled inner (λ j. 2 ^ j) n) ≡ Ok tt
 unfolding too_scattered_fault out_of_item_fault too_many_bytes_fault
 few_leaves F idat inner n there in_file first few =
@@ -308,7 +328,8 @@ few_leaves F idat inner n there in_file first few =
 
 -- ---- the first item passes the end of `idat`
 
-first_refused : (has : Located → Bool) (why : ℕ → ReadRefusal) (x : Located) (xs ys : List Located) → xs ≡ x ∷ ys → has x ≡ true → refused why (first_with has xs) ≡ Err (why x.id)
+first_refused : (has : Located → Bool) (why : ℕ → ReadRefusal) (x : Located) (xs ys : List Located) → xs ≡ x ∷ ys → has x ≡ true
+    → refused why (first_with has xs) ≡ Err (why x.id)
 first_refused has why x xs ys is held = rw (is, held) refl
 
 begins_with : (inner : Bool) (long : ℕ → ℕ) (n : ℕ) → (ys : List Located) × (doubled inner long (suc n) ≡ first_item inner ∷ ys)
@@ -321,7 +342,8 @@ unfolding out_of_idat_fault
 past_idat F long n some =
     let begins : Begins F (Some []) true long = record { there = refl; in_file = refl; some = some } in
     let first = begins_with true long n in
-    let refuse : out_of_idat_fault (Some []) (doubled true long (suc n)) ≡ Err (OutOfIdat 1) = first_refused (is_out_of_idat 0) (λ id. OutOfIdat id) (first_item true) (doubled true long (suc n)) first.0 first.1 refl in
+    let refuse : out_of_idat_fault (Some []) (doubled true long (suc n)) ≡ Err (OutOfIdat 1) =
+    first_refused (is_out_of_idat 0) (λ id. OutOfIdat id) (first_item true) (doubled true long (suc n)) first.0 first.1 refl in
     seven_fine F (Some []) true long (suc n) begins ∙ stops _ _ _ refuse
 
 pub file_there : (F : List ℕ) → 1 ≤ length F → is_out_of_file (length F) (first_item false) ≡ false

@@ -10,7 +10,8 @@ use Rattle.hf_base.specs.LocationFaults.{first_with, refused, external_fault, ba
 -- ---- the parts
 
 -- no item has the fault
-pub none_has : (has : Located → Bool) (why : ℕ → ReadRefusal) (items : List Located) (r : Located) → refused why (first_with has items) ≡ Ok tt → IsIn r items → has r ≡ false
+pub none_has : (has : Located → Bool) (why : ℕ → ReadRefusal) (items : List Located) (r : Located) → refused why (first_with has items) ≡ Ok tt
+    → IsIn r items → has r ≡ false
 none_has has why [] r fine is = absurd is
 none_has has why (x ∷ xs) r fine is = elim (cases_Bool (has x)) [
   | inl held ↦ (let e : refused why (first_with has (x ∷ xs)) ≡ Err (why x.id) = rw held refl in absurd (cc))
@@ -24,7 +25,8 @@ none_has has why (x ∷ xs) r fine is = elim (cases_Bool (has x)) [
       )
 ]
 
-pub none_refused : (has : Located → Bool) (why : ℕ → ReadRefusal) (items : List Located) → ((r : Located) → IsIn r items → has r ≡ false) → refused why (first_with has items) ≡ Ok tt
+pub none_refused : (has : Located → Bool) (why : ℕ → ReadRefusal) (items : List Located) → ((r : Located) → IsIn r items → has r ≡ false)
+    → refused why (first_with has items) ≡ Ok tt
 none_refused has why [] each = refl
 none_refused has why (x ∷ xs) each =
     let fails : has x ≡ false = each x (inl refl) in

@@ -44,7 +44,8 @@ Agree items f g r = (e : Extent) → IsIn e r.extents → (r.method == 2) ≡ tr
 abbrev pub IsLocal : {A : Type 0} → List Located → ((Located → A) → Located → A) → Type 0
 IsLocal {A} items tell = (f g : Located → A) (r : Located) → Agree items f g r → tell f r ≡ tell g r
 
-pub told_same : {A : Type 0} (nothing : A) (f g : Located → A) (o : Option Located) → ((s : Located) → o ≡ Some s → f s ≡ g s) → told nothing f o ≡ told nothing g o
+pub told_same : {A : Type 0} (nothing : A) (f g : Located → A) (o : Option Located) → ((s : Located) → o ≡ Some s → f s ≡ g s)
+    → told nothing f o ≡ told nothing g o
 told_same nothing f g None same = refl
 told_same nothing f g (Some s) same = same s refl
 
@@ -80,12 +81,15 @@ bytes_local F idat items f g r agree =
 -- ---- levels
 
 -- where unfolding ends at an item, it ends at those that it takes its bytes from
-pub source_ends : (items : List Located) (other : Located → Bool) (r : Located) (e : Extent) (s : Located) → ends_in items other r ≡ true → IsIn e r.extents → (r.method == 2) ≡ true → source_of items r e ≡ Some s → other s ≡ true
+pub source_ends : (items : List Located) (other : Located → Bool) (r : Located) (e : Extent) (s : Located) → ends_in items other r ≡ true → IsIn e r.extents
+    → (r.method == 2) ≡ true → source_of items r e ≡ Some s → other s ≡ true
 source_ends items other r e s end is two found =
-    let here : by_method r.method true true (told false other (source_of items r e)) ≡ true = all_at (λ (x : Extent). by_method r.method true true (told false other (source_of items r x))) r.extents e end is in
+    let here : by_method r.method true true (told false other (source_of items r e)) ≡ true =
+    all_at (λ (x : Extent). by_method r.method true true (told false other (source_of items r x))) r.extents e end is in
     ap (told false other) (sym found) ∙ sym (in_item r.method true true (told false other (source_of items r e)) two) ∙ here
 
-pub stable : {A : Type 0} (nothing : A) (tell : (Located → A) → Located → A) (items : List Located) → IsLocal items tell → (n m k : ℕ) (r : Located) → over false (ends_in items) n r ≡ true → n ≤ m → n ≤ k → over nothing tell m r ≡ over nothing tell k r
+pub stable : {A : Type 0} (nothing : A) (tell : (Located → A) → Located → A) (items : List Located) → IsLocal items tell → (n m k : ℕ) (r : Located)
+    → over false (ends_in items) n r ≡ true → n ≤ m → n ≤ k → over nothing tell m r ≡ over nothing tell k r
 unfolding over
 stable nothing tell items local zero m k r end few less = absurd (false≢true end)
 stable nothing tell items local (suc n) zero k r end few less = absurd (omega arith)
@@ -95,7 +99,8 @@ stable nothing tell items local (suc n) (suc m) (suc k) r end few less =
     (λ e is two s found. stable nothing tell items local n m k s (source_ends items (over false (ends_in items) n) r e s end is two found) (omega arith) (omega arith))
 
 -- with as many levels as there are items, what is told of an item is told by what is told of the others
-fixed : {A : Type 0} (nothing : A) (tell : (Located → A) → Located → A) (items : List Located) → IsLocal items tell → (n : ℕ) (r : Located) → over false (ends_in items) (suc n) r ≡ true
+fixed : {A : Type 0} (nothing : A) (tell : (Located → A) → Located → A) (items : List Located) → IsLocal items tell → (n : ℕ) (r : Located)
+    → over false (ends_in items) (suc n) r ≡ true
     → by_levels nothing tell n r ≡ tell (by_levels nothing tell n) r
 unfolding over
 fixed nothing tell items local n r end = stable nothing tell items local (suc n) (suc n) (suc (suc n)) r end (omega arith) (omega arith)
@@ -104,11 +109,13 @@ pub leaves_are : (items : List Located) (r : Located) → ends items r ≡ true 
 unfolding ends leaves_of over
 leaves_are items r end = fixed 0 (leaves_in items) items (leaves_local items) (length items) r end
 
-pub size_is : (len inner : ℕ) (items : List Located) (r : Located) → ends items r ≡ true → size_of len inner items r ≡ size_in len inner items (size_of len inner items) r
+pub size_is : (len inner : ℕ) (items : List Located) (r : Located) → ends items r ≡ true
+    → size_of len inner items r ≡ size_in len inner items (size_of len inner items) r
 unfolding ends size_of over
 size_is len inner items r end = fixed 0 (size_in len inner items) items (size_local len inner items) (length items) r end
 
-pub bytes_are : (F : List ℕ) (idat : Option (List ℕ)) (items : List Located) (r : Located) → ends items r ≡ true → bytes_of F idat items r ≡ bytes_in F idat items (bytes_of F idat items) r
+pub bytes_are : (F : List ℕ) (idat : Option (List ℕ)) (items : List Located) (r : Located) → ends items r ≡ true
+    → bytes_of F idat items r ≡ bytes_in F idat items (bytes_of F idat items) r
 unfolding ends bytes_of over
 bytes_are F idat items r end = fixed None (bytes_in F idat items) items (bytes_local F idat items) (length items) r end
 

@@ -4,6 +4,7 @@ pub mod Converse
 pub mod DoublingLaws
 pub mod FaultLaws
 pub mod LevelLaws
+pub mod FileChains
 pub mod LengthLaws
 pub mod Meeting
 pub mod Rising

@@ -3,11 +3,16 @@
 
 ghost use Rattle.std.specs.Prelude.{◌≡◌, ◌+◌, ◌-◌, ◌^◌, ◌<◌, ◌≤◌, ℕ, suc, Bool, true, false, List, Option, Ok, Err, Some, None, if◌then◌else◌, length, map, min, nat_lt, sum, []};
 ghost use Rattle.hf_base.specs.Counts.{leaves_of};
-ghost use Rattle.hf_base.specs.Doubling.{doubled, doubled_item};
-ghost use Rattle.hf_base.specs.Located.{Located};
+ghost use Rattle.hf_base.specs.Doubling.{doubled, doubled_item, doubled_entries, doubled_links, first_ids};
+ghost use Rattle.hf_base.specs.Located.{located_items};
 ghost use Rattle.hf_base.specs.LocationFaults.{locations_fault};
 ghost use Rattle.hf_base.specs.declared.fault.ReadRefusal.TheVariants.{OutOfIdat, TooScattered};
 ghost use Rattle.hf_base.specs.declared.limits.TheConstants.{PIECES};
+
+/// The chain is that of ids, entries and references as a file has them.
+pub fn a_file_may_have_the_chain()
+    ensures { (inner : Bool) (long : ℕ → ℕ) (n : ℕ) → located_items (first_ids (suc n)) (doubled_entries inner long (suc n)) (doubled_links n) ≡ doubled inner long (suc n) }
+{}
 
 /// The leaves double with each item, so n items have 2^n - 1 of them.
 pub fn leaves_double()

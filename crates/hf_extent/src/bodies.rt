@@ -1,15 +1,16 @@
 //! The bytes of items where they lie, each found once, in an order of the items.
 
-ghost use Rattle.std.specs.Prelude.{◌≡◌, ◌<◌, ◌+◌, ◌++◌, ◌≤◌, ◌^◌, IfOk, OnOk, Ok, Some, IsSome, IfSome, length, map};
 ghost use Rattle.std.specs.Option.{option_copied, ForSome};
-ghost use Rattle.hf_pieces.specs.Bytes.{joined};
-ghost use Rattle.hf_base.specs.BytesOf.{piece_of, bytes_of as bytes_are};
+ghost use Rattle.std.specs.Prelude.{◌≡◌, ◌<◌, ◌+◌, ◌++◌, ◌≤◌, ◌^◌, IfOk, OnOk, Ok, Some, IsSome, IfSome, length, map};
+ghost use Rattle.hf_base.specs.BytesOf.{piece_of};
 ghost use Rattle.hf_base.specs.LocationFaults.{locations_fault};
-ghost use Rattle.hf_extent.specs.Seen.{item_seen, items_seen};
 ghost use Rattle.hf_base.specs.Members.{Rises};
-ghost use Rattle.hf_extent.specs.Places.{AreAt, links_from};
-ghost use Rattle.hf_order.specs.Order.{IsOrder};
+ghost use Rattle.hf_extent.specs.Bodies.{AreBytesOf};
 ghost use Rattle.hf_extent.specs.Known.{piece_by, bytes_by};
+ghost use Rattle.hf_extent.specs.Places.{AreAt, links_from};
+ghost use Rattle.hf_extent.specs.Seen.{item_seen, items_seen};
+ghost use Rattle.hf_order.specs.Order.{IsOrder};
+ghost use Rattle.hf_pieces.specs.Bytes.{joined};
 
 use crate::items::Located;
 use crate::sources::source;
@@ -130,7 +131,7 @@ pub fn bodies<'a>(
     requires known { AreAt ids.now (items_seen items.now) }
     requires ordered { IsOrder (length ids.now) (links_from ids.now 0 (items_seen items.now)) order.now }
     requires faultless { locations_fault file.now (option_copied idat) (items_seen items.now) ≡ Ok tt }
-    ensures { IfOk result (λ bodies. map (bytes_are file.now (option_copied idat.entry) (items_seen items.now)) (items_seen items.now) ≡ map (λ p. Some (joined p)) bodies.items) }
+    ensures { IfOk result (λ bodies. AreBytesOf file.now (option_copied idat.entry) (items_seen items.now) bodies.items) }
 {
     let mut bodies = empty(alloc, ids.len())?;
     for at in order {

@@ -1,11 +1,11 @@
 //! The faults of an item that its own entry shows.
 
-ghost use Rattle.std.specs.Prelude.{◌≡◌};
 ghost use Rattle.std.specs.List.{list_any};
 ghost use Rattle.std.specs.Option.{option_copied};
-ghost use Rattle.hf_base.specs.Reading.{Reads};
+ghost use Rattle.std.specs.Prelude.{◌≡◌};
 ghost use Rattle.hf_base.specs.Counts.{inner_size as inner_size_of};
 ghost use Rattle.hf_base.specs.LocationFaults.{external_fault, bad_method_fault, zero_length_fault, no_idat_fault, lacks_idat as lacks_idat_of, out_of_file_fault, out_of_idat_fault, end_of as end_is, passes as passes_of, is_whole as is_whole_of, has_zero_length as has_zero_length_of, is_out_of_file as is_out_of_file_of, is_out_of_idat as is_out_of_idat_of};
+ghost use Rattle.hf_base.specs.Reading.{Reads};
 ghost use Rattle.hf_extent.specs.Seen.{item_seen, items_seen};
 
 use crate::items::Located;

@@ -1,12 +1,12 @@
 //! The items of a file, each with its entry of `iloc` and its joined `iloc` references.
 
 ghost use Rattle.std.specs.Prelude.{◌≡◌, ◌<◌, ◌++◌, ◌∷◌, [], List, IfOk, OnOk, None};
+ghost use Rattle.hf_base.specs.Located.{located_items, loc_of};
+ghost use Rattle.hf_base.specs.Members.{Rises};
 ghost use Rattle.hf_base.specs.declared.loc.Loc.{Loc as Entry};
 ghost use Rattle.hf_base.specs.declared.loc.RefBox.{RefBox as Link};
-ghost use Rattle.hf_base.specs.Located.{located_items, loc_of};
-ghost use Rattle.hf_extent.specs.Seen.{item_seen, items_seen};
-ghost use Rattle.hf_base.specs.Members.{Rises};
 ghost use Rattle.hf_extent.specs.Places.{AreAt, HaveDistinctIds};
+ghost use Rattle.hf_extent.specs.Seen.{item_seen, items_seen};
 
 use crate::sources::place;
 use hf_base::kinds::ILOC;

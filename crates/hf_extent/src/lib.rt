@@ -5,9 +5,10 @@ mod bodies;
 mod chains;
 mod checks;
 mod items;
+mod leaves;
 mod resolving;
+mod sizes;
 mod sources;
-mod totals;
 
 pub use resolving::resolve;
 

@@ -1,22 +1,22 @@
-//! The bytes of items.
+//! The bytes of items, or the one fault of their places.
 
-ghost use Rattle.std.specs.Prelude.{◌≡◌, ◌<◌, Ok, Some, map};
 ghost use Rattle.std.specs.Option.{option_copied};
-ghost use Rattle.hf_base.specs.Reading.{MatchOpen};
-ghost use Rattle.hf_pieces.specs.Bytes.{joined};
+ghost use Rattle.std.specs.Prelude.{◌≡◌, ◌<◌, Ok};
 ghost use Rattle.hf_base.specs.Located.{located_items};
-ghost use Rattle.hf_base.specs.BytesOf.{bytes_of};
 ghost use Rattle.hf_base.specs.LocationFaults.{locations_fault};
-ghost use Rattle.hf_extent.specs.Seen.{items_seen};
 ghost use Rattle.hf_base.specs.Members.{Rises};
+ghost use Rattle.hf_base.specs.Reading.{MatchOpen};
+ghost use Rattle.hf_extent.specs.Bodies.{AreBytesOf};
 ghost use Rattle.hf_extent.specs.Places.{AreAt, HaveDistinctIds};
+ghost use Rattle.hf_extent.specs.Seen.{items_seen};
 
 use crate::bodies::bodies;
 use crate::chains::{loc_cycle, order};
 use crate::checks;
 use crate::items::{Located, items};
+use crate::leaves::check_leaves;
+use crate::sizes::check_sizes;
 use crate::sources::bad_index;
-use crate::totals::{check_leaves, check_sizes};
 use hf_base::{Loc, OpenFault, RefBox};
 use hf_pieces::Pieces;
 use std::alloc::Global;
@@ -33,7 +33,7 @@ fn resolve_items<'a>(
     requires rising { Rises ◌<◌ ids.now }
     requires known { AreAt ids.now (items_seen items.now) }
     ensures { let items = items_seen items.now in MatchOpen result
-        (λ bodies. (locations_fault file.now (option_copied idat.entry) items ≡ Ok tt) × (map (bytes_of file.now (option_copied idat.entry) items) items ≡ map (λ p. Some (joined p)) bodies.items))
+        (λ bodies. (locations_fault file.now (option_copied idat.entry) items ≡ Ok tt) × AreBytesOf file.now (option_copied idat.entry) items bodies.items)
         (λ why. locations_fault file.now (option_copied idat.entry) items ≡ Err why) }
 {
     checks::external(items)?;
@@ -50,8 +50,15 @@ fn resolve_items<'a>(
     Ok(bodies(alloc, file, idat, ids, items, &order.nodes)?)
 }
 
-/// The bytes of each item, in the order of the ids, where they lie; or the first fault of the
-/// places of the items.
+/// The bytes of each of these items, in the order of the ids, as slices of the file and of `idat`: none
+/// is copied. Otherwise the first fault of the places of the items, with the least id that has it; the
+/// faults are tried in the order `External`, `BadMethod`, `ZeroLength`, `NoIdat`, `BadIndex`, `LocCycle`,
+/// `OutOfFile`, `OutOfIdat`, `TooScattered`, `OutOfItem`, `TooManyBytes`. An item without an entry, or
+/// whose entry has no extent, has no bytes; entries and references of other ids are passed over.
+/// `NoMemory` comes where memory was refused.
+///
+/// The time grows as n log n in items, entries, references and extents, and is linear in the slices that
+/// are made, which are counted before any is made.
 pub fn resolve<'a>(
     alloc: Global,
     file: &'a [u8],
@@ -63,7 +70,7 @@ pub fn resolve<'a>(
     requires rising { Rises ◌<◌ ids.now }
     requires distinct { HaveDistinctIds locs.now }
     ensures { let items = located_items ids.now locs.now links.now in MatchOpen result
-        (λ bodies. (locations_fault file.now (option_copied idat.entry) items ≡ Ok tt) × (map (bytes_of file.now (option_copied idat.entry) items) items ≡ map (λ p. Some (joined p)) bodies.items))
+        (λ bodies. (locations_fault file.now (option_copied idat.entry) items ≡ Ok tt) × AreBytesOf file.now (option_copied idat.entry) items bodies.items)
         (λ why. locations_fault file.now (option_copied idat.entry) items ≡ Err why) }
 {
     let items = items(alloc, ids, locs, links)?;

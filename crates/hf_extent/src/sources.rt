@@ -1,13 +1,13 @@
 //! The items that extents of method 2 take their bytes from, by their places among the ids.
 
-ghost use Rattle.std.specs.Prelude.{◌≡◌, ◌<◌, ◌++◌, length, IfSome, IfOk, OnOk};
 ghost use Rattle.std.specs.List.{list_any};
 ghost use Rattle.std.specs.Option.{is_none, option_map, option_to_list};
-ghost use Rattle.hf_base.specs.Reading.{Reads};
+ghost use Rattle.std.specs.Prelude.{◌≡◌, ◌<◌, ◌++◌, length, IfSome, IfOk, OnOk};
 ghost use Rattle.hf_base.specs.LocationFaults.{bad_index_fault};
-ghost use Rattle.hf_extent.specs.Seen.{item_seen, items_seen};
 ghost use Rattle.hf_base.specs.Members.{Rises};
+ghost use Rattle.hf_base.specs.Reading.{Reads};
 ghost use Rattle.hf_extent.specs.Places.{AreAt, id_place, place_of, has_bad_place, item_links, links_from};
+ghost use Rattle.hf_extent.specs.Seen.{item_seen, items_seen};
 
 use crate::items::Located;
 use hf_base::{Extent, NoMemory, ReadRefusal};

@@ -1,5 +1,6 @@
 -- The properties so far, where lists of properties are gone through.
-use Rattle.std.proofs.Common.{inl, inr, ◌≡◌, ℕ, ◌+◌, ◌<◌, ◌≤◌, List, [], ◌∷◌, ◌++◌, length, take, drop, get_or, sym, ap, subst, ◌∙◌, arith, cond, true, false, Bool, length-append}
+use Rattle.std.proofs.Common.{inl, inr, ◌≡◌, ℕ, ◌+◌, ◌<◌, ◌≤◌, List, [], ◌∷◌, ◌++◌, length}
+use Rattle.std.proofs.Common.{take, drop, get_or, sym, ap, subst, ◌∙◌, arith, cond, true, false, Bool, length-append}
 use Rattle.std.specs.Prelude.{fold, slice_get, Some}
 use Rattle.std.specs.List.{list_any}
 use Rattle.std.proofs.lemmas.Bool.{cases_lt}
@@ -34,7 +35,8 @@ module _ (lists : List (List Prop)) (i : ℕ) (ps : List Prop) (at : slice_get l
       ap all_props (take_more lists i ps there ∙ ap (λ y. take i lists ++ y ∷ []) (get_or_from_slice_get lists i ps ps at))
       ∙ flat_map-append (λ (l : List Prop). l) (take i lists) (ps ∷ []) ∙ ap (λ l. all_props (take i lists) ++ l) (append-nil ps)
 
-  pub few-kinds : (keys : List Prop) (n : ℕ) → keys ≡ table (all_props (take i lists)) → length (table (all_props lists)) ≤ n → length (fold with_prop keys ps) ≤ n
+  pub few-kinds : (keys : List Prop) (n : ℕ) → keys ≡ table (all_props (take i lists)) → length (table (all_props lists)) ≤ n
+      → length (fold with_prop keys ps) ≤ n
   few-kinds keys n seen few =
       let parts : all_props lists ≡ all_props (take (i + 1) lists) ++ all_props (drop (i + 1) lists) =
       ap all_props (sym (take-append-drop (i + 1) lists)) ∙ flat_map-append (λ (l : List Prop). l) (take (i + 1) lists) (drop (i + 1) lists) in

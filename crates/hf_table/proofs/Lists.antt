@@ -38,7 +38,8 @@ module _ {X : Type 0} (g : List X → List Prop) (joins : (xs ys : List X) → g
   sum-within : (f : Prop → ℕ) (n : ℕ) → sum_by f (g (take n xs)) ≤ sum_by f (g xs)
   sum-within f n =
       let whole : sum_by f (g xs) ≡ sum_by f (g (take n xs)) + sum_by f (g (drop n xs)) =
-      ap (λ l. sum_by f (g l)) (sym (take-append-drop n xs)) ∙ ap (sum_by f) (joins (take n xs) (drop n xs)) ∙ sum_by-append f (g (take n xs)) (g (drop n xs)) in
+      ap (λ l. sum_by f (g l)) (sym (take-append-drop n xs)) ∙ ap (sum_by f) (joins (take n xs) (drop n xs))
+      ∙ sum_by-append f (g (take n xs)) (g (drop n xs)) in
       omega arith
 
   module _ (i : ℕ) (x : X) (there : i < length xs) (is : x ≡ get_or xs i x) where

@@ -26,7 +26,8 @@ module _ (lists : List (List Prop)) (ps : List Prop) (p : Prop) where
     any-seen : (q : Prop) → list_any (same_prop q) keys ≡ list_any (same_prop q) ps
     any-seen q = ap (list_any (same_prop q)) seen ∙ table-any q ps
 
-    pub numbers-more : map (λ q. number_of q keys) ps ++ (position_or_len (same_prop p) keys + 1) ∷ [] ≡ map (λ q. number_of q (with_prop keys p)) (ps ++ p ∷ [])
+    pub numbers-more : map (λ q. number_of q keys) ps ++ (position_or_len (same_prop p) keys + 1) ∷ []
+        ≡ map (λ q. number_of q (with_prop keys p)) (ps ++ p ∷ [])
     numbers-more =
         let old = numbers-stay ps keys p (λ r e. any-seen r ∙ e) in
         let one = number-comes p keys in
@@ -39,7 +40,8 @@ module _ (lists : List (List Prop)) (ps : List Prop) (p : Prop) where
       pub firsts-kept : list_any (same_prop p) keys ≡ true → AllZip (IsFirst lists (ps ++ p ∷ [])) places (with_prop keys p)
       firsts-kept e = subst (λ b. AllZip (IsFirst lists (ps ++ p ∷ [])) places (cond b keys (keys ++ p ∷ []))) (sym e) kept
 
-      pub firsts-more : (i j : ℕ) → place_of lists i j ≡ length ps → Stands lists i j p → list_any (same_prop p) keys ≡ false → AllZip (IsFirst lists (ps ++ p ∷ [])) (places ++ (i, j) ∷ []) (with_prop keys p)
+      pub firsts-more : (i j : ℕ) → place_of lists i j ≡ length ps → Stands lists i j p → list_any (same_prop p) keys ≡ false
+          → AllZip (IsFirst lists (ps ++ p ∷ [])) (places ++ (i, j) ∷ []) (with_prop keys p)
       firsts-more i j here at e =
           let new : IsFirst lists (ps ++ p ∷ []) (i, j) p = record {
             place = here ∙ sym (position-end (same_prop p) ps p (sym (any-seen p) ∙ e) (same_prop-self p));

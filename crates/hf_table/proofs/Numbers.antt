@@ -47,7 +47,8 @@ last-step false o m n h f = let e = f h in omega arith
 
 pub number-last : (p : Prop) (qs : List Prop) → list_any (same_prop p) qs ≡ false → number_of p (qs ++ p ∷ []) ≡ position_or_len (same_prop p) qs + 1
 number-last p [] h = ap (λ b. cond b 1 (suc 0)) (same_prop-self p)
-number-last p (q ∷ qs) h = last-step (same_prop p q) (list_any (same_prop p) qs) (number_of p (qs ++ p ∷ [])) (position_or_len (same_prop p) qs) h (number-last p qs)
+number-last p (q ∷ qs) h =
+    last-step (same_prop p q) (list_any (same_prop p) qs) (number_of p (qs ++ p ∷ [])) (position_or_len (same_prop p) qs) h (number-last p qs)
 
 -- the number that a property gets where it comes
 pub number-comes : (p : Prop) (qs : List Prop) → number_of p (with_prop qs p) ≡ position_or_len (same_prop p) qs + 1
@@ -92,7 +93,8 @@ zip-length R [] (y ∷ ys) h = absurd h
 zip-length R (x ∷ xs) [] h = absurd h
 zip-length R (x ∷ xs) (y ∷ ys) h = ap suc (zip-length R xs ys h.1)
 
-pub zip-at : {A B : Type 0} (R : A → B → Type 0) (xs : List A) (ys : List B) (k : ℕ) (x : A) (y : B) → AllZip R xs ys → slice_get xs k ≡ Some x → slice_get ys k ≡ Some y → R x y
+pub zip-at : {A B : Type 0} (R : A → B → Type 0) (xs : List A) (ys : List B) (k : ℕ) (x : A) (y : B) → AllZip R xs ys → slice_get xs k ≡ Some x
+    → slice_get ys k ≡ Some y → R x y
 zip-at R [] [] k x y h a b = absurd (none-some x a)
   where
     none-some : {C : Type 0} (c : C) → ◌≡◌ {A = Option C} None (Some c) → ⊥

@@ -8,7 +8,8 @@ use Rattle.hf_prop.specs.declared.prop.Prop.{Prop}
 use Rattle.hf_table.specs.Held.{is_among, others, props_of_others}
 
 module _ {A : Type 0} (id_of : A → ℕ) (props_of : A → List Prop) (ids : List ℕ) where
-  pub others-join : (xs ys : List A) → props_of_others id_of props_of ids (xs ++ ys) ≡ props_of_others id_of props_of ids xs ++ props_of_others id_of props_of ids ys
+  pub others-join : (xs ys : List A)
+      → props_of_others id_of props_of ids (xs ++ ys) ≡ props_of_others id_of props_of ids xs ++ props_of_others id_of props_of ids ys
   others-join xs ys =
       ap (λ l. flat_map props_of l) (filter-append (λ (i : A). not (is_among ids (id_of i))) xs ys)
       ∙ flat_map-append props_of (others id_of ids xs) (others id_of ids ys)

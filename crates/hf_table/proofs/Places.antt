@@ -27,6 +27,8 @@ module _ (lists : List (List Prop)) (i j : ℕ) (p : Prop) (s : Stands lists i j
       get_or-flat_map (λ (ps : List Prop). ps) lists i j s.props p list-there prop-there
       ∙ ap (λ ps. get_or ps j p) list-is ∙ get_or_from_slice_get s.props j p p s.held
 
-  pub number-at : (ns : List ℕ) (ps : List Prop) (start d : ℕ) → ns ≡ map (λ q. number_of q ps) (all_props lists) → start ≡ length (all_props (take i lists)) → get_or ns (start + j) d ≡ number_of p ps
+  pub number-at : (ns : List ℕ) (ps : List Prop) (start d : ℕ) → ns ≡ map (λ q. number_of q ps) (all_props lists) → start ≡ length (all_props (take i lists))
+      → get_or ns (start + j) d ≡ number_of p ps
   number-at ns ps start d numbers starts =
-      (λ k. get_or (numbers k) (starts k + j) d) ∙ get_or-map (λ q. number_of q ps) (all_props lists) (place_of lists i j) p d place-there ∙ ap (λ q. number_of q ps) place-is
+      (λ k. get_or (numbers k) (starts k + j) d) ∙ get_or-map (λ q. number_of q ps) (all_props lists) (place_of lists i j) p d place-there
+      ∙ ap (λ q. number_of q ps) place-is

@@ -55,7 +55,8 @@ module _ (us : List Use) (p : Prop) (o : Option ℕ) (new : List Use) (sets : Se
 
   pub sets-loses : holders_in us p ≡ unwrap_or o 0 + 1 → Gains new (p ∷ []) us
   sets-loses h = record {
-    each = λ q. down-step us p q o h (same_prop p q) refl ∙ ap (λ b. unwrap_or (cond (same_prop p q) o (lookup (same_prop q) us)) 0 + (0 + cond b 1 0)) (same-symm p q)
+    each = λ q. down-step us p q o h (same_prop p q) refl
+        ∙ ap (λ b. unwrap_or (cond (same_prop p q) o (lookup (same_prop q) us)) 0 + (0 + cond b 1 0)) (same-symm p q)
         ∙ ap (λ r. unwrap_or r 0 + (0 + cond (same_prop q p) 1 0)) (sym (sets.each q));
   }
 
@@ -72,11 +73,13 @@ module _ (us : List Use) (p : Prop) (n : ℕ) (new : List Use) (sets : Sets us p
   sets-sizes =
       sums_alike same_equiv same_prop-is prop_size (keys_of new) (insert_key same_prop (keys_of us) p) dn (distinct-insert same_equiv (keys_of us) p du)
       (λ q. any-looked (same_prop q) new ∙ ap is_some (sets.each q) ∙ some-or (same_prop p q) n (lookup (same_prop q) us)
-      ∙ ap (λ b. is_some (lookup (same_prop q) us) || b) (same-symm p q) ∙ ap (λ b. b || same_prop q p) (sym (any-looked (same_prop q) us)) ∙ sym (any-insert same_equiv q (keys_of us) p))
+      ∙ ap (λ b. is_some (lookup (same_prop q) us) || b) (same-symm p q) ∙ ap (λ b. b || same_prop q p) (sym (any-looked (same_prop q) us))
+      ∙ sym (any-insert same_equiv q (keys_of us) p))
       ∙ push-sizes (list_any (same_prop p) (keys_of us)) (keys_of us) p
       ∙ ap (λ b. size_sum (keys_of us) + cond b 0 (prop_size p)) (any-looked (same_prop p) us)
 
-back-step : (us new : List Use) (p q : Prop) (n : ℕ) → lookup (same_prop p) us ≡ Some n → (b : Bool) → same_prop p q ≡ b → lookup (same_prop q) new ≡ cond b None (lookup (same_prop q) us)
+back-step : (us new : List Use) (p q : Prop) (n : ℕ) → lookup (same_prop p) us ≡ Some n → (b : Bool) → same_prop p q ≡ b
+    → lookup (same_prop q) new ≡ cond b None (lookup (same_prop q) us)
     → lookup (same_prop q) us ≡ cond b (Some n) (lookup (same_prop q) new)
 back-step us new p q n h true e f = looked-same us p q e ∙ h
 back-step us new p q n h false e f = sym f

@@ -1,5 +1,6 @@
 -- The properties of one item, from the first on, come to a table that is being made.
-use Rattle.std.proofs.Common.{◌≡◌, ℕ, ◌+◌, ◌<◌, ◌≤◌, List, [], ◌∷◌, ◌++◌, length, take, drop, get_or, refl, sym, ap, subst, ◌∙◌, arith, length-append, append_assoc}
+use Rattle.std.proofs.Common.{◌≡◌, ℕ, ◌+◌, ◌<◌, ◌≤◌, List, [], ◌∷◌, ◌++◌, length}
+use Rattle.std.proofs.Common.{take, drop, get_or, refl, sym, ap, subst, ◌∙◌, arith, length-append, append_assoc}
 use Rattle.std.specs.Prelude.{fold, slice_get, option_map, Some}
 use Rattle.std.proofs.lemmas.List.{take_more, take-append-drop, length-take-le, map-append, length-map}
 use Rattle.std.proofs.lemmas.List.Sums.{fold_push}
@@ -12,7 +13,8 @@ use Rattle.hf_table.specs.Table.{with_prop}
 use Rattle.hf_table.proofs.Cuts.{few-so-far}
 
 module _ (held : List Held) (j : ℕ) where
-  pub few-before : (keys seen : List Prop) (n : ℕ) → seen ≡ fold with_prop keys (props_in (take j held)) → length (fold with_prop keys (props_in held)) ≤ n → length seen ≤ n
+  pub few-before : (keys seen : List Prop) (n : ℕ) → seen ≡ fold with_prop keys (props_in (take j held)) → length (fold with_prop keys (props_in held)) ≤ n
+      → length seen ≤ n
   few-before keys seen n is few =
       let parts : props_in held ≡ props_in (take j held) ++ props_in (drop j held) =
       ap props_in (sym (take-append-drop j held)) ∙ map-append (λ (h : Held). h.prop) (take j held) (drop j held) in
@@ -28,7 +30,8 @@ module _ (held : List Held) (j : ℕ) where
     pub all-more : (ps : List Prop) → (ps ++ props_in (take j held)) ++ p ∷ [] ≡ ps ++ props_in (take (j + 1) held)
     all-more ps = append_assoc ps (props_in (take j held)) (p ∷ []) ∙ ap (λ l. ps ++ l) (sym props-more)
 
-    pub seen-next : (keys seen : List Prop) → seen ≡ fold with_prop keys (props_in (take j held)) → with_prop seen p ≡ fold with_prop keys (props_in (take (j + 1) held))
+    pub seen-next : (keys seen : List Prop) → seen ≡ fold with_prop keys (props_in (take j held))
+        → with_prop seen p ≡ fold with_prop keys (props_in (take (j + 1) held))
     seen-next keys seen e =
         ap (λ ks. with_prop ks p) e ∙ sym (fold_push with_prop keys (props_in (take j held)) p) ∙ ap (fold with_prop keys) (sym props-more)
 
@@ -41,5 +44,7 @@ module _ (held : List Held) (j : ℕ) where
       stands-here = record {
         props = props_in held;
         at = at;
-        held = slice_get-map (λ (g : Held). g.prop) held j ∙ ap (option_map (λ (g : Held). g.prop)) (slice_get_read held (length held) j h refl within is) ∙ ap Some (sym same);
+        held =
+            slice_get-map (λ (g : Held). g.prop) held j ∙ ap (option_map (λ (g : Held). g.prop)) (slice_get_read held (length held) j h refl within is)
+            ∙ ap Some (sym same);
       }

@@ -40,7 +40,8 @@ number_selects p (q ∷ qs) h =
     elim (cases_Bool (same_prop p q)) [
       | inl is_here ↦ let e : q ≡ p = sym (same_prop-is p q is_here) in (0, rw is_here refl, rw e refl)
       | inr not_here ↦
-          let later : IsIn p qs = elim h [ inl e ↦ absurd (both (same_prop p q) not_here (subst (λ (r : Prop). same_prop p r ≡ true) (sym e) (same_prop-self p))) | inr k ↦ k ] in
+          let later : IsIn p qs =
+          elim h [ inl e ↦ absurd (both (same_prop p q) not_here (subst (λ (r : Prop). same_prop p r ≡ true) (sym e) (same_prop-self p))) | inr k ↦ k ] in
           let rest = number_selects p qs later in
           (suc rest.0, rw not_here (ap suc rest.1), rest.2)
     ]

@@ -1,5 +1,6 @@
 -- What the uses say of the list that they count.
-use Rattle.std.proofs.Common.{◌≡◌, ℕ, suc, ◌+◌, Bool, true, false, ◌||◌, cond, List, [], ◌∷◌, ◌++◌, length, refl, sym, ap, ◌∙◌, Option, Some, arith, true≢false, zero, zero-add, add-zero, length-append}
+use Rattle.std.proofs.Common.{◌≡◌, ℕ, suc, ◌+◌, Bool, true, false, ◌||◌, cond, List, [], ◌∷◌, ◌++◌}
+use Rattle.std.proofs.Common.{length, refl, sym, ap, ◌∙◌, Option, Some, arith, true≢false, zero, zero-add, add-zero, length-append}
 use Rattle.std.specs.Prelude.{nat_lt, unwrap_or}
 use Rattle.std.specs.List.{list_any, IsDistinct}
 use Rattle.std.specs.List.Sorted.{IsPermutation}
@@ -121,7 +122,8 @@ module _ (p : Prop) (before after : List Prop) where
   moved q =
       places-append q before (p ∷ after) ∙ ap (λ n. places_of q before + n) (count-cons q p after)
       ∙ turned (places_of q before) (cond (same_prop q p) 1 0) (places_of q after)
-      ∙ sym (places-append q (before ++ after) (p ∷ []) ∙ ap (λ n. n + places_of q (p ∷ [])) (places-append q before after) ∙ ap (λ n. (places_of q before + places_of q after) + n) (count-cons q p []))
+      ∙ sym (places-append q (before ++ after) (p ∷ []) ∙ ap (λ n. n + places_of q (p ∷ [])) (places-append q before after)
+      ∙ ap (λ n. (places_of q before + places_of q after) + n) (count-cons q p []))
     where
       turned : (a b c : ℕ) → a + (b + c) ≡ (a + c) + (b + 0)
       turned a b c = omega arith
@@ -134,7 +136,8 @@ module _ (p : Prop) (before after : List Prop) where
       ∙ push-length (list_any (same_prop p) (table (before ++ after))) (table (before ++ after)) p
       ∙ ap (λ b. length (table (before ++ after)) + cond b 0 1) (table-any p (before ++ after))
 
-  pub table-sizes-more : size_sum (table (before ++ p ∷ after)) ≡ size_sum (table (before ++ after)) + cond (list_any (same_prop p) (before ++ after)) 0 (prop_size p)
+  pub table-sizes-more : size_sum (table (before ++ p ∷ after))
+      ≡ size_sum (table (before ++ after)) + cond (list_any (same_prop p) (before ++ after)) 0 (prop_size p)
   table-sizes-more =
       table-sizes (before ++ p ∷ after) ((before ++ after) ++ p ∷ []) moved
       ∙ ap size_sum (fold_push with_prop [] (before ++ after) p)

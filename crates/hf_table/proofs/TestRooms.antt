@@ -53,6 +53,7 @@ room-next us new ps qs none gained count s t =
     let tally : Tallies new ps = record { each = λ q. (let e = up.each q in omega arith) } in
     let size = sizes-tallied new ps count tally in
     let lighter = table-lighter [] ps in (
-      λ q. (let e = tally.each q in let c = count_by-le-length (same_prop q) ps in let d = count_by-le-length (same_prop q) qs in let f = s.few in let g = t.few in omega arith),
+      λ q. (let e = tally.each q in let c = count_by-le-length (same_prop q) ps in let d = count_by-le-length (same_prop q) qs in
+          let f = s.few in let g = t.few in omega arith),
       (let l = s.light in let m = t.light in omega arith),
     )

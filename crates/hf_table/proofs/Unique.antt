@@ -66,7 +66,8 @@ pub tables_are_alike : TablesAreAlike
 tables_are_alike lists some other s o = (
   firsts-unique lists (all_props lists) some.firsts.items other.firsts.items (table (all_props lists)) s.firsts o.firsts,
   s.numbers ∙ sym o.numbers,
-  same_number_lists some.starts.items other.starts.items (s.count ∙ sym o.count) (λ k h. (let there : k < length lists = let e = s.count in omega arith in s.starts k there ∙ sym (o.starts k there))),
+  same_number_lists some.starts.items other.starts.items (s.count ∙ sym o.count)
+      (λ k h. (let there : k < length lists = let e = s.count in omega arith in s.starts k there ∙ sym (o.starts k there))),
 )
 
 pub places_are_there : PlacesAreThere

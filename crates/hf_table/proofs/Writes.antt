@@ -16,7 +16,8 @@ none-zero : ◌≡◌ {A = Option ℕ} None (Some 0) → ⊥
 none-zero e = cc
 
 -- a number that is written through `get_mut`
-module _ {S : Type 0} (m n : IndexMap Prop ℕ S) (p : Prop) (v w : ℕ) (h : WritesThrough same_prop (same_prop p) m w n) (there : Some v ≡ lookup (same_prop p) m.entries) where
+module _ {S : Type 0} (m n : IndexMap Prop ℕ S) (p : Prop) (v w : ℕ)
+    (h : WritesThrough same_prop (same_prop p) m w n) (there : Some v ≡ lookup (same_prop p) m.entries) where
   written-sets : Sets m.entries p (Some w) n.entries
   written-sets = record { each = (h.3 (ap is_some (sym there))).0 }
 
@@ -33,11 +34,13 @@ module _ {S : Type 0} (m n : IndexMap Prop ℕ S) (p : Prop) (v w : ℕ) (h : Wr
   }
 
 -- a number that is written back as it was
-pub written-same : {S : Type 0} (m n : IndexMap Prop ℕ S) (p : Prop) (v : ℕ) → WritesThrough same_prop (same_prop p) m v n → Some v ≡ lookup (same_prop p) m.entries → n.entries ≡ m.entries
+pub written-same : {S : Type 0} (m n : IndexMap Prop ℕ S) (p : Prop) (v : ℕ) → WritesThrough same_prop (same_prop p) m v n
+    → Some v ≡ lookup (same_prop p) m.entries → n.entries ≡ m.entries
 written-same m n p v h there = h.0 ∙ set_value_same (same_prop p) m.entries v (sym there)
 
 -- a property that comes
-module _ {S : Type 0} (m n : IndexMap Prop ℕ S) (p : Prop) (h : UpdatesBy same_prop (same_prop p) m n (Some 1)) (u : IsUnique same_prop n) (absent : lookup (same_prop p) m.entries ≡ None) where
+module _ {S : Type 0} (m n : IndexMap Prop ℕ S) (p : Prop)
+    (h : UpdatesBy same_prop (same_prop p) m n (Some 1)) (u : IsUnique same_prop n) (absent : lookup (same_prop p) m.entries ≡ None) where
   come-sets : Sets m.entries p (Some 1) n.entries
   come-sets = record { each = h.0 }
 

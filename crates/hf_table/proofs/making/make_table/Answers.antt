@@ -13,7 +13,8 @@ use Rattle.hf_table.proofs.making.make_table.Goals as goal
 
 pub note_all-requires : goal.note_all-requires
 note_all-requires g c =
-    few-kinds (g.S.PropLists.lists c.args.store.now) c.loop-i.i (props_in c.props_at.result.now) c.props_at.ensures c.loop-i.making.seen.keys KINDS c.loop-i.invariant.made.seen c.requires
+    few-kinds (g.S.PropLists.lists c.args.store.now) c.loop-i.i (props_in c.props_at.result.now) c.props_at.ensures c.loop-i.making.seen.keys KINDS
+    c.loop-i.invariant.made.seen c.requires
 
 pub loop-i-preserved : goal.loop-i-preserved
 loop-i-preserved g c =
@@ -30,7 +31,8 @@ loop-i-preserved g c =
       made = subst (λ ps. IsMade lists ps c.note_all.new.self) (sym (all-more lists i props c.props_at.ensures)) made;
       count = grind (arith, common_steps);
       starts =
-          starts-more c.loop-i.starts.items c.push.new.self.items i c.len.result (λ n. length (all_props (take n lists))) c.in_ok-push.ensures.items c.loop-i.invariant.count
+          starts-more c.loop-i.starts.items c.push.new.self.items i c.len.result (λ n. length (all_props (take n lists))) c.in_ok-push.ensures.items
+          c.loop-i.invariant.count
           c.loop-i.invariant.starts begins;
     }
 

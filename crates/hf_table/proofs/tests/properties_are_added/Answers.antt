@@ -6,4 +6,6 @@ use Rattle.hf_table.proofs.tests.properties_are_added.Goals as goal
 pub add_all-requires : goal.add_all-requires
 add_all-requires g c =
     room-at-first c.new-uses.result (props_in c.props.result.now) c.new-uses.ensures.value
-    (small (props_in c.props.result.now) c.turn.result c.turn-2.result (c.props.ensures ∙ c.in_ok-item.ensures) (light-turn 1 c.turn.result c.turn.ensures) (light-turn 1 c.turn-2.result c.turn-2.ensures))
+    (small (props_in c.props.result.now) c.turn.result c.turn-2.result (c.props.ensures ∙ c.in_ok-item.ensures)
+    (light-turn 1 c.turn.result c.turn.ensures)
+    (light-turn 1 c.turn-2.result c.turn-2.ensures))

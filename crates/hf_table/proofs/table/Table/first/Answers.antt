@@ -9,4 +9,5 @@ use Rattle.hf_table.proofs.table.Table.first.Goals as goal
 pub returns-clause-first : goal.returns-clause-first
 returns-clause-first c lists p t e =
     let fs = c.args.self.now.firsts.items in
-    zip-at (IsFirst lists (all_props lists)) fs (table (all_props lists)) c.args.k c.index.result.now p t.firsts (slice_get_read fs (length fs) c.args.k c.index.result.now refl c.requires c.index.ensures) e
+    zip-at (IsFirst lists (all_props lists)) fs (table (all_props lists)) c.args.k c.index.result.now p t.firsts
+    (slice_get_read fs (length fs) c.args.k c.index.result.now refl c.requires c.index.ensures) e

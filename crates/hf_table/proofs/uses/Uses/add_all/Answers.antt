@@ -9,7 +9,9 @@ pub add-requires-clause-few : goal.add-requires-clause-few
 add-requires-clause-few c =
     let h = c.index-props-i.result in
     let copied : c.copy.result ≡ h.prop = c.copy.ensures ∙ ap (λ g. g.prop) (sym c.index-props-i.is) in
-    let few = added-room props_in props-join c.args.props.now c.loop-i.i h c.loop-i-test.true c.index-props-i.is c.args.self.now c.loop-i.self c.requires c.loop-i.invariant.gains h.prop refl in
+    let few =
+    added-room props_in props-join c.args.props.now c.loop-i.i h c.loop-i-test.true c.index-props-i.is c.args.self.now c.loop-i.self c.requires
+    c.loop-i.invariant.gains h.prop refl in
     subst (λ p. holders_in c.loop-i.self p < 2 ^ 62) (sym copied) few
 
 pub add-requires-clause-room : goal.add-requires-clause-room
@@ -22,7 +24,9 @@ add-requires-clause-room c none =
     omega arith
 
 pub take_all-requires : goal.take_all-requires
-take_all-requires c = holds-those c.args.self.now c.add.new.self _ (subst (λ us. Gains c.args.self.now (props_in (take c.loop-i.i c.args.props.now)) us) (sym c.in-Err.ensures.unchanged) c.loop-i.invariant.gains)
+take_all-requires c =
+    holds-those c.args.self.now c.add.new.self _
+    (subst (λ us. Gains c.args.self.now (props_in (take c.loop-i.i c.args.props.now)) us) (sym c.in-Err.ensures.unchanged) c.loop-i.invariant.gains)
 
 pub loop-i-preserved : goal.loop-i-preserved
 loop-i-preserved c =
@@ -34,11 +38,14 @@ loop-i-preserved c =
     let before = c.loop-i.invariant.bytes in
     let grown = c.in_default.ensures.bytes in
     record {
-      gains = added-more props_in props-join c.args.props.now c.loop-i.i h c.loop-i-test.true c.index-props-i.is c.args.self.now c.loop-i.self c.add.new.self c.loop-i.invariant.gains gains;
+      gains =
+          added-more props_in props-join c.args.props.now c.loop-i.i h c.loop-i-test.true c.index-props-i.is c.args.self.now c.loop-i.self c.add.new.self
+          c.loop-i.invariant.gains gains;
       bytes = omega arith;
     }
 
 pub returns-in-Err-clause-same : goal.returns-in-Err-clause-same
 returns-in-Err-clause-same c =
     gains-undone c.args.self.now c.add.new.self c.take_all.new.self _
-    (subst (λ us. Gains c.args.self.now (props_in (take c.loop-i.i c.args.props.now)) us) (sym c.in-Err.ensures.unchanged) c.loop-i.invariant.gains) c.take_all.ensures
+    (subst (λ us. Gains c.args.self.now (props_in (take c.loop-i.i c.args.props.now)) us) (sym c.in-Err.ensures.unchanged) c.loop-i.invariant.gains)
+    c.take_all.ensures

@@ -9,7 +9,9 @@ pub take-requires : goal.take-requires
 take-requires c =
     let kind = c.args.kind in
     let h = c.held-item.result in
-    let held = taken-holds (of_kind kind) (kinds-join kind) c.args.props.now c.loop-held.held-index h c.loop-held-test.true c.held-item.is c.args.self.now c.loop-held.self c.requires c.loop-held.invariant in
+    let held =
+    taken-holds (of_kind kind) (kinds-join kind) c.args.props.now c.loop-held.held-index h c.loop-held-test.true c.held-item.is c.args.self.now
+    c.loop-held.self c.requires c.loop-held.invariant in
     holds-one c.loop-held.self h.prop (subst (Holds c.loop-held.self) (kind-one kind h (sym c.if-is_of_kind.ensures)) held)
 
 pub loop-held-preserved : goal.loop-held-preserved
@@ -17,10 +19,13 @@ loop-held-preserved c =
     let kind = c.args.kind in
     let h = c.held-item.result in
     let more = λ (us : _) (next : Gains us (of_kind kind (h ∷ [])) c.loop-held.self).
-    taken-more (of_kind kind) (kinds-join kind) c.args.props.now c.loop-held.held-index h c.loop-held-test.true c.held-item.is c.args.self.now c.loop-held.self us c.loop-held.invariant next in
+    taken-more (of_kind kind) (kinds-join kind) c.args.props.now c.loop-held.held-index h c.loop-held-test.true c.held-item.is c.args.self.now
+    c.loop-held.self us c.loop-held.invariant next in
     elim c.if-is_of_kind.branch [
       | then-is_of_kind w ↦ more c.if-is_of_kind.self
-          (subst (λ us. Gains us (of_kind kind (h ∷ [])) c.loop-held.self) (sym w.self-is) (subst (λ ps. Gains w.take.new.self ps c.loop-held.self) (sym (kind-one kind h (sym w.if-is_of_kind.ensures))) w.take.ensures))
+          (subst (λ us. Gains us (of_kind kind (h ∷ [])) c.loop-held.self) (sym w.self-is)
+          (subst (λ ps. Gains w.take.new.self ps c.loop-held.self) (sym (kind-one kind h (sym w.if-is_of_kind.ensures))) w.take.ensures))
       | else-is_of_kind w ↦ more c.if-is_of_kind.self
-          (subst (λ us. Gains us (of_kind kind (h ∷ [])) c.loop-held.self) (sym w.self-is) (subst (λ ps. Gains c.loop-held.self ps c.loop-held.self) (sym (kind-none kind h (sym w.if-is_of_kind.ensures))) (gains-none c.loop-held.self)))
+          (subst (λ us. Gains us (of_kind kind (h ∷ [])) c.loop-held.self) (sym w.self-is)
+          (subst (λ ps. Gains c.loop-held.self ps c.loop-held.self) (sym (kind-none kind h (sym w.if-is_of_kind.ensures))) (gains-none c.loop-held.self)))
     ]

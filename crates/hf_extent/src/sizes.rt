@@ -1,90 +1,26 @@
-//! Leaves and stated lengths of items, each found once, in an order of the items.
+//! How many bytes items have by what their extents state, those of each item counted once, in an order of
+//! the items.
 
-ghost use Rattle.std.specs.Prelude.{◌≡◌, ◌<◌, ◌-◌, ◌^◌, ℕ, List, Option, IfOk, Ok, length, min, map};
 ghost use Rattle.std.specs.List.{list_any};
 ghost use Rattle.std.specs.Option.{option_copied};
-ghost use Rattle.hf_base.specs.Reading.{Reads, Gives};
-ghost use Rattle.hf_base.specs.Located.{Located as Stated, source_of};
+ghost use Rattle.std.specs.Prelude.{◌≡◌, ◌<◌, ◌-◌, ◌^◌, ℕ, List, Option, IfOk, Ok, length, min};
+ghost use Rattle.hf_base.specs.Counts.{size_of as size_are, inner_size as inner_size_of};
 ghost use Rattle.hf_base.specs.Levels.{told};
-ghost use Rattle.hf_base.specs.BytesOf.{by_method};
-ghost use Rattle.hf_base.specs.Counts.{leaves_of as leaves_are, size_of as size_are, inner_size as inner_size_of};
-ghost use Rattle.hf_base.specs.LocationFaults.{loc_cycle_fault, bad_index_fault, too_scattered_fault, out_of_item_fault, too_many_bytes_fault, passes as passes_of, is_out_of_item as is_out_of_item_of};
-ghost use Rattle.hf_extent.specs.Seen.{item_seen, items_seen};
+ghost use Rattle.hf_base.specs.Located.{Located as Stated, source_of};
+ghost use Rattle.hf_base.specs.LocationFaults.{bad_index_fault, loc_cycle_fault, out_of_item_fault, too_many_bytes_fault, passes as passes_of, is_out_of_item as is_out_of_item_of};
 ghost use Rattle.hf_base.specs.Members.{Rises};
-ghost use Rattle.hf_extent.specs.Places.{AreAt, links_from, place_of};
+ghost use Rattle.hf_base.specs.Reading.{Reads, Gives};
+ghost use Rattle.hf_extent.specs.Known.{source_by, size_by, stopped, sizes_fault};
+ghost use Rattle.hf_extent.specs.Places.{AreAt, links_from};
+ghost use Rattle.hf_extent.specs.Seen.{item_seen, items_seen};
 ghost use Rattle.hf_order.specs.Order.{IsOrder};
-ghost use Rattle.hf_extent.specs.Known.{at_place, leaves_by, source_by, size_by, stopped, sizes_fault};
 
 use crate::checks::{end_of, inner_size};
 use crate::items::Located;
 use crate::sources::source;
-use hf_base::limits::{BODY, PIECES};
+use hf_base::limits::BODY;
 use hf_base::{Extent, NoMemory, OpenFault, ReadRefusal};
 use std::alloc::Global;
-
-/// How many leaves an extent has.
-fn leaves_in(ids: &[u32], item: &Located<'_>, extent: &Extent, counts: &[u64]) -> u64
-    requires rising { Rises ◌<◌ ids.now }
-    requires known { length counts.now ≡ length ids.now }
-    ensures { result ≡ by_method item.now.method 1 1 (at_place counts.now (place_of ids.now (item_seen item.now) extent.now)) }
-{
-    if item.method != 2 {
-        return 1;
-    }
-    match source(ids, item, extent) {
-        Some(at) => counts[at],
-        None => 0,
-    }
-}
-
-/// How many leaves an item has, or 2^64 - 1, where those of the items that it takes bytes from are
-/// known.
-fn leaves_of(ids: &[u32], item: &Located<'_>, counts: &[u64]) -> u64
-    requires rising { Rises ◌<◌ ids.now }
-    requires known { length counts.now ≡ length ids.now }
-    ensures { result ≡ min (leaves_by ids.now counts.now (item_seen item.now)) (2 ^ 64 - 1) }
-{
-    let mut total: u64 = 0;
-    for extent in item.extents {
-        total = total.saturating_add(leaves_in(ids, item, extent, counts));
-    }
-    total
-}
-
-/// How many leaves each item has, or 2^64 - 1.
-pub fn leaves(
-    alloc: Global,
-    ids: &[u32],
-    items: &[Located<'_>],
-    order: &[usize],
-) -> Result<Vec<u64>, NoMemory>
-    requires rising { Rises ◌<◌ ids.now }
-    requires known { AreAt ids.now (items_seen items.now) }
-    requires ordered { IsOrder (length ids.now) (links_from ids.now 0 (items_seen items.now)) order.now }
-    requires named { bad_index_fault (items_seen items.now) ≡ Ok tt }
-    requires ending { loc_cycle_fault (items_seen items.now) ≡ Ok tt }
-    ensures { IfOk result (λ counts. counts.items ≡ map (λ r. min (leaves_are (items_seen items.now) r) (2 ^ 64 - 1)) (items_seen items.now)) }
-{
-    let mut counts = vec![in alloc; 0u64; ids.len()]?;
-    for at in order {
-        counts[*at] = leaves_of(ids, &items[*at], &counts);
-    }
-    Ok(counts)
-}
-
-/// Refuses more than `PIECES` leaves.
-pub fn too_scattered(counts: &[u64]) -> Result<(), ReadRefusal>
-    ensures { (items : List Stated) → counts.now ≡ map (λ r. min (leaves_are items r) (2 ^ 64 - 1)) items → Reads (λ x. x) result (too_scattered_fault items) }
-{
-    let mut count: u64 = 0;
-    for leaves in counts {
-        count = count.saturating_add(*leaves);
-    }
-    if count > PIECES {
-        return Err(ReadRefusal::TooScattered { count });
-    }
-    Ok(())
-}
 
 /// How many bytes the source of an extent has.
 fn source_size(
@@ -131,7 +67,7 @@ fn size_of(len: u64, inner: u64, ids: &[u32], item: &Located<'_>, sizes: &[u128]
 }
 
 /// How many bytes each item has, or 2^128 - 1.
-pub fn sizes(
+fn sizes(
     alloc: Global,
     len: u64,
     inner: u64,
@@ -210,7 +146,7 @@ fn is_out_of_item(
 }
 
 /// Refuses the first item with an extent that passes the end of another item.
-pub fn out_of_item(
+fn out_of_item(
     len: u64,
     inner: u64,
     ids: &[u32],
@@ -238,7 +174,7 @@ fn short(n: u128) -> u64
 }
 
 /// Refuses more than `BODY` bytes.
-pub fn too_many_bytes(sizes: &[u128]) -> Result<(), ReadRefusal>
+fn too_many_bytes(sizes: &[u128]) -> Result<(), ReadRefusal>
     ensures { (F : List ℕ) (idat : Option (List ℕ)) (items : List Stated) → sizes.now ≡ stopped (length F) (inner_size_of idat) items → Reads (λ x. x) result (too_many_bytes_fault F idat items) }
 {
     let mut sum: u128 = 0;
@@ -248,25 +184,6 @@ pub fn too_many_bytes(sizes: &[u128]) -> Result<(), ReadRefusal>
     if sum > u128::from(BODY) {
         return Err(ReadRefusal::TooManyBytes { sum: short(sum) });
     }
-    Ok(())
-}
-
-/// Refuses more than `PIECES` leaves.
-pub fn check_leaves(
-    alloc: Global,
-    ids: &[u32],
-    items: &[Located<'_>],
-    order: &[usize],
-) -> Result<(), OpenFault>
-    requires rising { Rises ◌<◌ ids.now }
-    requires known { AreAt ids.now (items_seen items.now) }
-    requires ordered { IsOrder (length ids.now) (links_from ids.now 0 (items_seen items.now)) order.now }
-    requires named { bad_index_fault (items_seen items.now) ≡ Ok tt }
-    requires ending { loc_cycle_fault (items_seen items.now) ≡ Ok tt }
-    ensures { Gives (λ x. x) result (too_scattered_fault (items_seen items.now)) }
-{
-    let counts = leaves(alloc, ids, items, order)?;
-    too_scattered(&counts)?;
     Ok(())
 }
 

@@ -3,7 +3,7 @@ use Rattle.hf_base.specs.Located.{Located}
 use Rattle.hf_base.specs.Counts.{size_of}
 use Rattle.hf_extent.specs.Seen.{items_seen}
 use Rattle.hf_extent.proofs.TotalLaws.{Knows}
-use Rattle.hf_extent.proofs.totals.sizes.Given as goal
+use Rattle.hf_extent.proofs.sizes.sizes.Given as goal
 
 abbrev pub invariant-loop-at : goal.invariant-loop-at
 invariant-loop-at l = record { count : length l.sizes.items ≡ length l.ids; knows : Knows (λ (r : Located). min (size_of l.len l.inner (items_seen l.items) r) (2 ^ 128 - 1)) (items_seen l.items) (take l.at-index l.order) l.sizes.items }

@@ -4,7 +4,7 @@ use Rattle.hf_base.specs.declared.limits.TheConstants.{PIECES}
 use Rattle.hf_base.specs.Counts.{leaves_of}
 use Rattle.hf_base.specs.LocationFaults.{too_scattered_fault}
 use Rattle.hf_extent.proofs.TotalLaws.{limited_over, limited_within, counted, whole_sum}
-use Rattle.hf_extent.proofs.totals.too_scattered.Goals as goal
+use Rattle.hf_extent.proofs.leaves.too_scattered.Goals as goal
 
 pub returns-then-count-gt-PIECES : goal.returns-then-count-gt-PIECES
 unfolding too_scattered_fault

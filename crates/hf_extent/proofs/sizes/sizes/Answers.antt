@@ -10,7 +10,7 @@ use Rattle.hf_extent.proofs.PlaceLaws.{length_at}
 use Rattle.hf_extent.proofs.OrderLaws.{AreNamed}
 use Rattle.hf_extent.proofs.SeenLaws.{seen_at}
 use Rattle.hf_extent.proofs.TotalLaws.{knows_more, size_known, knows_all}
-use Rattle.hf_extent.proofs.totals.sizes.Goals as goal
+use Rattle.hf_extent.proofs.sizes.sizes.Goals as goal
 
 pub loop-at-preserved : goal.loop-at-preserved
 loop-at-preserved c =

@@ -4,7 +4,7 @@ use Rattle.hf_base.specs.declared.limits.TheConstants.{BODY}
 use Rattle.hf_base.specs.Counts.{size_of, inner_size}
 use Rattle.hf_base.specs.LocationFaults.{too_many_bytes_fault}
 use Rattle.hf_extent.proofs.TotalLaws.{limited_over, limited_within, counted, whole_sum}
-use Rattle.hf_extent.proofs.totals.too_many_bytes.Goals as goal
+use Rattle.hf_extent.proofs.sizes.too_many_bytes.Goals as goal
 
 pub returns-then-sum-from : goal.returns-then-sum-from
 unfolding too_many_bytes_fault

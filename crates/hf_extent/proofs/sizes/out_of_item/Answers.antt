@@ -4,7 +4,7 @@ use Rattle.hf_base.specs.Counts.{inner_size}
 use Rattle.hf_base.specs.LocationFaults.{out_of_item_fault, is_out_of_item, refused, first_with}
 use Rattle.hf_extent.specs.Seen.{item_seen, items_seen}
 use Rattle.hf_extent.proofs.Firsts.{none_at_start, none_more, first_here, first_nowhere}
-use Rattle.hf_extent.proofs.totals.out_of_item.Goals as goal
+use Rattle.hf_extent.proofs.sizes.out_of_item.Goals as goal
 
 pub loop-item-init : goal.loop-item-init
 loop-item-init c = none_at_start (is_out_of_item c.args.len c.args.inner (items_seen c.args.items.now)) c.args.items.now

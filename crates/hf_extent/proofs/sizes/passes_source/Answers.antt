@@ -6,7 +6,7 @@ use Rattle.hf_base.specs.Counts.{size_of}
 use Rattle.hf_base.specs.LocationFaults.{end_of}
 use Rattle.hf_extent.specs.Seen.{item_seen, items_seen}
 use Rattle.hf_extent.proofs.TotalLaws.{passes_stopped, size_at, no_source}
-use Rattle.hf_extent.proofs.totals.passes_source.Goals as goal
+use Rattle.hf_extent.proofs.sizes.passes_source.Goals as goal
 
 pub returns-in-Some : goal.returns-in-Some
 returns-in-Some c =
