@@ -1,13 +1,13 @@
 -- What is due of a file that was read, and what a command answered.
-use Rattle.std.proofs.Common.{◌≡◌, ℕ, ◌+◌, ◌<◌, ◌≤◌, List, [], length, true, refl, sym, ap, ◌∙◌, inl, inr, ◌⊎◌, arith, subst, Result, Ok, Err, IsOk}
-use Rattle.std.specs.Prelude.{Option, Some, None, IsSome, IsSomeAnd, OnOk, OnErr, ⊤}
+use Rattle.std.proofs.Common.{◌≡◌, ℕ, ◌<◌, ◌≤◌, List, [], length, refl, sym, ap, ◌∙◌, inl, inr, ◌⊎◌, subst, Result, Ok, Err}
+use Rattle.std.specs.Prelude.{Option, Some, None, IsSome, IsSomeAnd}
 use Rattle.hf_base.specs.declared.fault.ReadRefusal.{ReadRefusal}
 use Rattle.hf_base.specs.declared.limits.TheConstants.{FILE}
 use Rattle.hf_box.specs.declared.view.BoxRow.{BoxRow}
 use Rattle.hf_box.specs.Walk.{walk_at}
 use Rattle.hf_desk.specs.Outside.{Outside, Files, file_of}
 use Rattle.hf_desk.specs.Calls.{IfTold, HasFile, Rose, Said, SaidFront}
-use Rattle.hf_desk.specs.Making.{IsMade, IsUnmade, IsMadeInPart, Makes}
+use Rattle.hf_desk.specs.Making.{IsMade, IsUnmade, IsMadeInPart}
 use Rattle.hf_desk.proofs.Frames.{told_for, told_map}
 use Rattle.hf_desk.specs.declared.read.ReadStop.{ReadStop}
 use Rattle.hf_desk.specs.declared.read.ReadStop.TheVariants as reads

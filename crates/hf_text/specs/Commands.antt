@@ -1,5 +1,5 @@
 -- Commands as the code has them, where a file is named by the place of its word.
-use Rattle.std.specs.Prelude.{◌≡◌, ◌<◌, ◌↔◌, ℕ, List, [], ◌∷◌, ◌++◌, length, get_or, map, Result, Ok, Err, IfOk, IsOk}
+use Rattle.std.specs.Prelude.{◌≡◌, ◌<◌, ℕ, List, [], ◌∷◌, ◌++◌, length, get_or, map, Result, Ok, Err, IfOk, IsOk}
 use Rattle.std.specs.Global.{Vec}
 use Rattle.hf_base.specs.declared.fault.NoMemory.{NoMemory as NoRoom}
 use Rattle.hf_text.specs.Words.{Command, Boxes, EditFile}

@@ -1,4 +1,4 @@
-use Rattle.std.proofs.Common.{◌≡◌, ◌≤◌, List, [], ℕ, length, map, ap, sym, ◌∙◌, subst, refl, inl, inr, Ok, Err, rules}
+use Rattle.std.proofs.Common.{[], map, refl, rules}
 use Rattle.hf_text.specs.Commands.{edit_of}
 use Rattle.hf_text.specs.declared.outcome.Outcome.TheVariants.{Done, WriteFault}
 use Rattle.hf_app.specs.Stops.{outcome_of_stop}

@@ -1,5 +1,5 @@
-use Rattle.std.proofs.Common.{◌≡◌, ◌+◌, true, false, drop, map, string_bytes, sym, ap, ◌∙◌, Some, None}
-use Rattle.std.specs.Prelude.{Option, option_map}
+use Rattle.std.proofs.Common.{◌≡◌, ◌+◌, true, false, string_bytes, sym, ap, ◌∙◌, Some, None}
+use Rattle.std.specs.Prelude.{option_map}
 use Rattle.std.specs.Option.{ok_or}
 use Rattle.hf_text.specs.Words.{id_of, is_remove}
 use Rattle.hf_store.specs.Changes.{Remove}

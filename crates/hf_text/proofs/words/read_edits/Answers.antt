@@ -1,9 +1,9 @@
-use Rattle.std.proofs.Common.{◌≡◌, ◌<◌, ◌≤◌, ◌≢◌, ◌+◌, ◌∙◌, map, string_bytes, length, arith, ap, sym, subst, Ok}
+use Rattle.std.proofs.Common.{◌≤◌, ◌+◌, ◌∙◌, map, string_bytes, length, arith, ap, sym, subst, Ok}
 use Rattle.std.specs.Prelude.{is_ok}
 use Rattle.std.proofs.lemmas.List.{length-map}
 use Rattle.std.proofs.lemmas.Result.{err_from_is_err_and}
 use Rattle.hf_text.specs.Words.{words_of_edit}
-use Rattle.hf_text.specs.Commands.{edit_of, HasEdits}
+use Rattle.hf_text.specs.Commands.{edit_of}
 use Rattle.hf_text.proofs.EditSteps.{Progress, progress_start, progress_full, progress_refused, progress_more, progress_end, held_edits}
 use Rattle.hf_text.proofs.words.read_edits.Goals as goal
 
