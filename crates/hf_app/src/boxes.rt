@@ -1,7 +1,6 @@
 //! `boxes IN`: the boxes of a file are said.
 
 ghost use Rattle.std.specs.Prelude.{◌≡◌, ℕ, true, false};
-ghost use Rattle.hf_desk.specs.Outside.{Outside};
 ghost use Rattle.hf_text.specs.Words.{Boxes};
 ghost use Rattle.hf_app.specs.Due.{IsDueOf};
 ghost use Rattle.hf_app.specs.Answers.{Answers, Ends, ForFile, IsQuiet, HasCause, IsDueOrNoMemory, Stays};

@@ -2,7 +2,6 @@
 
 ghost use Rattle.std.specs.Prelude.{◌≡◌, ◌≤◌, ℕ, true, false, length, map};
 ghost use Rattle.hf_base.specs.declared.limits.TheConstants.{EDITS};
-ghost use Rattle.hf_desk.specs.Outside.{Outside};
 ghost use Rattle.hf_desk.specs.Calls.{LacksFile};
 ghost use Rattle.hf_text.specs.Words.{EditFile};
 ghost use Rattle.hf_text.specs.Commands.{edit_of};

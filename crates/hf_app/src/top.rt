@@ -1,7 +1,6 @@
 //! The top call.
 
-ghost use Rattle.std.specs.Prelude.{◌≡◌, ◌↔◌, ℕ, List, true, false, Ok, Err, map, string_bytes};
-ghost use Rattle.hf_desk.specs.Outside.{Outside};
+ghost use Rattle.std.specs.Prelude.{◌≡◌, ◌↔◌, ℕ, true, false, Ok, Err, map, string_bytes};
 ghost use Rattle.hf_desk.specs.Calls.{Rose};
 ghost use Rattle.hf_text.specs.Words.{Command as Words, command_read};
 ghost use Rattle.hf_app.specs.Answers.{Answers, Ends, ForDue, IsQuiet, HasCause, IsDueOrNoMemory, OutIsFree, Stays};

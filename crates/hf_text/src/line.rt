@@ -1,7 +1,7 @@
 //! The line of an outcome.
 
-ghost use Rattle.std.specs.Prelude.{◌≡◌, ◌++◌, codes, string_bytes, IfOk, OnOk};
-ghost use Rattle.hf_text.specs.Lines.{line_text, number_field, type_field, refusal_text};
+ghost use Rattle.std.specs.Prelude.{◌≡◌, ◌++◌, string_bytes, IfOk, OnOk};
+ghost use Rattle.hf_text.specs.Lines.{line_text, number_field, type_field};
 ghost use Rattle.hf_text.specs.Parts.{parts_text};
 
 use crate::outcome::Outcome;

@@ -1,6 +1,6 @@
 //! What is printed of a refusal, and of a reason against an edit.
 
-ghost use Rattle.std.specs.Prelude.{◌≡◌, ◌++◌, codes, Some, None};
+ghost use Rattle.std.specs.Prelude.{◌≡◌, ◌++◌, Some, None};
 ghost use Rattle.hf_text.specs.Lines.{number_field, type_field, reason_text, refusal_text};
 ghost use Rattle.hf_text.specs.Parts.{parts_text};
 

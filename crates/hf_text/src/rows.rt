@@ -1,7 +1,6 @@
 //! The rows of a file, said by the page.
 
 ghost use Rattle.std.specs.Prelude.{◌≡◌, ◌≤◌, length};
-ghost use Rattle.hf_desk.specs.Outside.{Outside};
 ghost use Rattle.hf_desk.specs.Calls.{Says};
 ghost use Rattle.hf_desk.specs.Pages.{BySay, Gives};
 ghost use Rattle.hf_text.specs.Texts.{indent as indent_of, row_text, rows_text};

@@ -1,6 +1,6 @@
 //! Types and numbers as text, on the stack.
 
-ghost use Rattle.std.specs.Prelude.{◌≡◌, ◌+◌, ◌<◌, ◌≤◌, ◌++◌, IsTrue, ◌↔◌, length};
+ghost use Rattle.std.specs.Prelude.{◌≡◌, ◌+◌, ◌<◌, ◌≤◌, ◌++◌, length};
 ghost use Rattle.hf_text.specs.Texts.{byte_text, hex_digit_of, is_plain as is_plain_byte, type_text as text_of_type};
 
 use arrayvec::ArrayString;
