@@ -9,7 +9,7 @@ use Rattle.std.proofs.lemmas.List.Concat.{flat_map-cons}
 use Rattle.hf_base.specs.Entries.{has_id, are_distinct}
 use Rattle.hf_base.specs.Members.{IsIn}
 use Rattle.hf_order.proofs.Members.{in_all, from_map, in_front, in_back, in_joined, in_take}
-use Rattle.hf_prop.specs.Held.{Held}
+use Rattle.hf_prop.specs.declared.held.Held.{Held}
 use Rattle.hf_prop.specs.declared.assoc.Assoc.{Assoc}
 use Rattle.hf_prop.specs.declared.assoc.Pick.{Pick}
 use Rattle.hf_prop.specs.declared.iprp.Iprp.{Iprp}

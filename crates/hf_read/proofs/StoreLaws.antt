@@ -23,7 +23,7 @@ use Rattle.hf_info.specs.Infe.{Info, IsGoodInfo}
 use Rattle.hf_info.proofs.IinfLemmas.{iinf_good}
 use Rattle.hf_links.specs.Grpl.{Group}
 use Rattle.hf_order.proofs.Members.{in_all, all_from, from_map}
-use Rattle.hf_prop.specs.Held.{Held}
+use Rattle.hf_prop.specs.declared.held.Held.{Held}
 use Rattle.hf_store.specs.Derived.{inputs}
 use Rattle.hf_store.specs.References.{IsKept}
 use Rattle.hf_store.specs.Store.{RefList, Item, ItemStore, ids_of}

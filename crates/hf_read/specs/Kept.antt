@@ -11,7 +11,7 @@ use Rattle.hf_base.specs.declared.kinds.TheConstants.{ILOC}
 use Rattle.hf_base.specs.declared.loc.RefBox.{RefBox}
 use Rattle.hf_box.specs.Walk.{is_kind}
 use Rattle.hf_links.specs.Grpl.{Group}
-use Rattle.hf_prop.specs.Held.{Held}
+use Rattle.hf_prop.specs.declared.held.Held.{Held}
 use Rattle.hf_prop.specs.declared.assoc.Assoc.{Assoc}
 use Rattle.hf_prop.specs.declared.assoc.Pick.{Pick}
 use Rattle.hf_prop.specs.declared.iprp.Iprp.{Iprp}

@@ -1,0 +1,15 @@
+pub mod AcceptedFifth
+pub mod AcceptedFirst
+pub mod AcceptedFourth
+pub mod AcceptedSecond
+pub mod AcceptedThird
+pub mod OrderOfIds
+pub mod OrderOfItems
+pub mod OrderOfPlaces
+pub mod OrderOfProperties
+pub mod OrderOfTables
+pub mod RefusedBoxes
+pub mod RefusedItems
+pub mod RefusedPlaces
+pub mod RefusedRecords
+pub mod Samples
