@@ -35,7 +35,7 @@ below_irreflexive a e =
     let both : Less ≡ Greater = sym e ∙ flipped ∙ greater in
     cc
 
-below_transitive : (a b c : FourCc) → IsBelow a b → IsBelow b c → IsBelow a c
+pub below_transitive : (a b c : FourCc) → IsBelow a b → IsBelow b c → IsBelow a c
 below_transitive a b c x y = nat_list_cmp_total.trans a.0 b.0 c.0 x y
 
 ordering_cases : (o : Ordering) → (o ≡ Less) ⊎ ((o ≡ Equal) ⊎ (o ≡ Greater))
@@ -51,7 +51,7 @@ below_total a b =
       | inr (inr greater) ↦ inr (inr (nat_list_cmp_total.antisymm b.0 a.0 ∙ ap ordering_reverse greater))
     ]
 
-rises : (low : FourCc) (kinds : List FourCc) → RisesFrom IsBelow low kinds → Rises IsBelow kinds
+pub rises : (low : FourCc) (kinds : List FourCc) → RisesFrom IsBelow low kinds → Rises IsBelow kinds
 rises low [] h = tt
 rises low (x ∷ xs) h = h.1
 

@@ -127,28 +127,28 @@ groups_are_counted s short = omega (arith, groups_sum s.groups short, sum-zero s
 -- ---- valid stores
 
 -- what holds of each where the sum of all has a bound
-all_below : {A : Type 0} (f : A → ℕ) (Q P : A → Type 0) (top : ℕ) (xs : List A) → AllByRecursion Q xs → sum_by f xs ≤ top → ((x : A) → Q x → f x ≤ top → P x) → AllByRecursion P xs
+pub all_below : {A : Type 0} (f : A → ℕ) (Q P : A → Type 0) (top : ℕ) (xs : List A) → AllByRecursion Q xs → sum_by f xs ≤ top → ((x : A) → Q x → f x ≤ top → P x) → AllByRecursion P xs
 all_below f Q P top [] good sum each = tt
 all_below f Q P top (x ∷ xs) good sum each =
     let both = sum_by-cons f x xs in
     (each x good.0 (omega (arith, both, sum)), all_below f Q P top xs good.1 (omega (arith, both, sum)) each)
 
-all_of : {A : Type 0} (Q P : A → Type 0) (xs : List A) → AllByRecursion Q xs → ((x : A) → Q x → P x) → AllByRecursion P xs
+pub all_of : {A : Type 0} (Q P : A → Type 0) (xs : List A) → AllByRecursion Q xs → ((x : A) → Q x → P x) → AllByRecursion P xs
 all_of Q P [] good each = tt
 all_of Q P (x ∷ xs) good each = (each x good.0, all_of Q P xs good.1 each)
 
-all_append : {A : Type 0} (P : A → Type 0) (xs ys : List A) → AllByRecursion P xs → AllByRecursion P ys → AllByRecursion P (xs ++ ys)
+pub all_append : {A : Type 0} (P : A → Type 0) (xs ys : List A) → AllByRecursion P xs → AllByRecursion P ys → AllByRecursion P (xs ++ ys)
 all_append P [] ys some more = more
 all_append P (x ∷ xs) ys some more = (some.0, all_append P xs ys some.1 more)
 
-abbrev FourProp : Prop → Type 0
+abbrev pub FourProp : Prop → Type 0
 FourProp p = IsFour p.kind
 
 four_with : (earlier : List Prop) (p : Prop) → AllByRecursion FourProp earlier → FourProp p → AllByRecursion FourProp (with_prop earlier p)
 four_with earlier p fours kind =
     elim (list_any (same_prop p) earlier) as (λ b. AllByRecursion FourProp (cond b earlier (earlier ++ p ∷ []))) [ true ↦ fours | false ↦ all_append FourProp earlier (p ∷ []) fours (kind, tt) ]
 
-four_folded : (earlier ps : List Prop) → AllByRecursion FourProp earlier → AllByRecursion FourProp ps → AllByRecursion FourProp (fold with_prop earlier ps)
+pub four_folded : (earlier ps : List Prop) → AllByRecursion FourProp earlier → AllByRecursion FourProp ps → AllByRecursion FourProp (fold with_prop earlier ps)
 four_folded earlier [] fours more = fours
 four_folded earlier (p ∷ ps) fours more = four_folded (with_prop earlier p) ps (four_with earlier p fours more.0) more.1
 
@@ -156,7 +156,7 @@ four_held : (hs : List Held) → AllByRecursion (λ (h : Held). IsFour h.prop.ki
 four_held [] fours = tt
 four_held (h ∷ hs) fours = (fours.0, four_held hs fours.1)
 
-four_props : (all is : List Item) → AllByRecursion (IsGoodItem all) is → AllByRecursion FourProp (flat_map props_of is)
+pub four_props : (all is : List Item) → AllByRecursion (IsGoodItem all) is → AllByRecursion FourProp (flat_map props_of is)
 four_props all [] good = tt
 four_props all (i ∷ is) good = all_append FourProp (props_of i) (flat_map props_of is) (four_held i.props good.0.prop_kinds) (four_props all is good.1)
 
@@ -174,12 +174,12 @@ box_holds : (total n : ℕ) → total ≡ box_len n → n ≤ total
 box_holds total n e = omega (arith, e, le-box_len n)
 
 -- the inner boxes are no longer than `meta`
-record AreBelow (s : ItemStore) (top : ℕ) : Type 0 where
-  infes : infes_size (is_wide s.items) s.items ≤ top
-  props : props_size (table_of s) ≤ top
-  groups : groups_size s.groups ≤ top
+pub record AreBelow (s : ItemStore) (top : ℕ) : Type 0 where
+  pub infes : infes_size (is_wide s.items) s.items ≤ top
+  pub props : props_size (table_of s) ≤ top
+  pub groups : groups_size s.groups ≤ top
 
-inner-below : (s : ItemStore) → AreBelow s (meta_len s)
+pub inner-below : (s : ItemStore) → AreBelow s (meta_len s)
 unfolding inner_of meta_len
 inner-below s =
     let wide = is_wide s.items in
@@ -195,17 +195,17 @@ inner-below s =
       groups = omega (arith, meta, groups);
     }
 
-short_item : (all : List Item) (wide : Bool) (i : Item) → IsGoodItem all i → length (infe_box wide (info_of i)) ≤ limits.META → IsShortItem i
+pub short_item : (all : List Item) (wide : Bool) (i : Item) → IsGoodItem all i → length (infe_box wide (info_of i)) ≤ limits.META → IsShortItem i
 short_item all wide i good small =
     (good.kind, omega (arith, small, length-box (four "infe") (infe_body wide (info_of i)) refl, le-box_len (length (infe_body wide (info_of i))), infe_body-size wide i good.kind, ge-width wide))
 
-short_group : (all : List Item) (g : Group) → IsGoodGroup all g → length (group_box g) ≤ limits.META → IsShortGroup g
+pub short_group : (all : List Item) (g : Group) → IsGoodGroup all g → length (group_box g) ≤ limits.META → IsShortGroup g
 short_group all g good small = (good.kind, omega (arith, small, length-box g.kind (group_body g) good.kind, le-box_len (length (group_body g)), group_body-size g))
 
-short_prop : (p : Prop) → IsFour p.kind → length (box p.kind p.body) ≤ limits.META → IsShortProp p
+pub short_prop : (p : Prop) → IsFour p.kind → length (box p.kind p.body) ≤ limits.META → IsShortProp p
 short_prop p kind small = (kind, omega (arith, small, length-box p.kind p.body kind, le-box_len (length p.body)))
 
-short_lists : (all : List Item) (i : Item) → IsGoodItem all i → AllByRecursion IsShortList i.refs
+pub short_lists : (all : List Item) (i : Item) → IsGoodItem all i → AllByRecursion IsShortList i.refs
 short_lists all i good = all_of (IsGoodRef all) IsShortList i.refs good.refs (λ r ref. (ref.kind, ref.links))
 
 pub valid_is_short : ValidIsShort

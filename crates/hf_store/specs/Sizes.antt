@@ -20,15 +20,10 @@ use Rattle.hf_store.specs.Lists.{RisesFrom}
 use Rattle.hf_store.specs.Store.{Prop, RefList, Item, Group, ItemStore, ids_of}
 use Rattle.hf_store.specs.Table.{table_of}
 use Rattle.hf_store.specs.Valid.{IsFour, Valid}
+-- the bytes of the boxes inside `iinf`, `iref`, `ipco` and `grpl`, headers included
+pub use Rattle.hf_store.specs.declared.size.Inner.{Inner}
 
 -- ---- the boxes inside others
-
--- the bytes of the boxes inside `iinf`, `iref`, `ipco` and `grpl`, headers included
-pub record Inner : Type 0 where
-  pub infes : ℕ
-  pub links : ℕ
-  pub props : ℕ
-  pub groups : ℕ
 
 abbrev pub infes_size : Bool → List Item → ℕ
 infes_size wide is = sum_by (λ (i : Item). length (infe_box wide (info_of i))) is
