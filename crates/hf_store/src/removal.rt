@@ -1,11 +1,12 @@
 //! The edit that removes an item.
 
-ghost use Rattle.std.specs.Prelude.{◌≡◌, ◌==◌, None, Some, OnOk, IfErr};
+ghost use Rattle.std.specs.Prelude.{◌≡◌, ◌==◌, ◌&&◌, not, None, Some, OnOk, IfErr};
 ghost use Rattle.std.specs.List.{list_any};
 ghost use Rattle.hf_store.specs.Changes.{Remove, is_need, needed_by as needed_by_stated, needs as needs_stated, step, why};
 ghost use Rattle.hf_store.specs.Seen.{item_of};
 
 use crate::{Item, Reason, Store};
+use crate::item::RefList;
 use hf_base::FourCc;
 use hf_base::kinds::DIMG;
 
@@ -29,16 +30,31 @@ fn leads_to(ids: &[u32], id: u32) -> bool
     ids.iter().any(|to| *to == id)
 }
 
+/// Whether these references need the item with this id.
+fn list_needs(list: &RefList, id: u32) -> bool
+    ensures { result ≡ (is_need list.now.kind && list_any (λ to. to == id) list.now.to) }
+{
+    is_need_kind(list.kind) && leads_to(list.to.as_slice(), id)
+}
+
 /// Whether an item needs the one with this id.
 fn needs(item: &Item<'_>, id: u32) -> bool
     ensures { result ≡ needs_stated id (item_of item.now) }
 {
-    for list in item.refs.as_slice() {
-        if is_need_kind(list.kind) && leads_to(list.to.as_slice(), id) {
+    let refs = item.refs.as_slice();
+    for list in refs {
+        if list_needs(list, id) {
             return true;
         }
     }
     false
+}
+
+/// Whether an item is another one than that with this id, and needs it.
+fn is_needer(item: &Item<'_>, id: u32) -> bool
+    ensures { result ≡ (not (item.now.id == id) && needs_stated id (item_of item.now)) }
+{
+    item.id != id && needs(item, id)
 }
 
 /// The least id of another item that needs the one with this id: it has a reference of type `dimg`,
@@ -48,8 +64,7 @@ pub fn needed_by(store: &Store<'_>, id: u32) -> Option<u32>
 {
     for i in 0..store.len() {
         let item = store.at(i);
-        let other = item.id != id;
-        if other && needs(item, id) {
+        if is_needer(item, id) {
             return Some(item.id);
         }
     }
