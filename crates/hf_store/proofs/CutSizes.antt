@@ -1,14 +1,13 @@
 -- The length of `meta` where some items go.
-use Rattle.std.proofs.Common.{◌≡◌, ℕ, zero, suc, ◌+◌, ◌*◌, ◌^◌, ◌<◌, ◌≤◌, Bool, true, false, cond, ltb, List, [], ◌∷◌, length, refl, sym, ap, ◌∙◌, arith, subst, inl, inr}
+use Rattle.std.proofs.Common.{◌≡◌, ℕ, zero, suc, ◌+◌, ◌*◌, ◌≤◌, Bool, true, false, cond, ltb, length, sym, arith, subst, inl, inr}
 use Rattle.std.specs.Prelude.{◌==◌}
 use Rattle.std.specs.List.{flat_map}
 use Rattle.std.proofs.Math.Dec.{eqb-suc-zero}
-use Rattle.std.proofs.lemmas.Bool.{cases_Bool, cases_lt, lt-ltb, le-ltb}
+use Rattle.std.proofs.lemmas.Bool.{cases_lt, lt-ltb, le-ltb}
 use Rattle.std.proofs.lemmas.Nat.{mul-le}
-use Rattle.hf_base.specs.declared.limits.TheConstants as limits
 use Rattle.hf_box.specs.Head.{box_len}
 use Rattle.hf_box.specs.Written.{bit, id_width}
-use Rattle.hf_store.specs.Changes.{cut_item, cut_items, cut_groups, cut}
+use Rattle.hf_store.specs.Changes.{cut_items, cut}
 use Rattle.hf_store.specs.Counts.{Counts, HasCounts, counts_of_item, counts_of_group, counts_of}
 use Rattle.hf_store.specs.Layout.{is_wide}
 use Rattle.hf_store.specs.Sizes.{short_props, short_links, short_groups, short_inner, ipma_size, meta_size_by, IsFourGroup, AreFours, counted_meta}
@@ -17,7 +16,7 @@ use Rattle.hf_store.specs.Table.{props_of, table_of}
 use Rattle.hf_store.specs.Valid.{meta_len, Valid}
 use Rattle.hf_store.proofs.BoxLengths.{box_len-mono}
 use Rattle.hf_store.proofs.CountsAre.{counts_are}
-use Rattle.hf_store.proofs.Cuts.{filter-le, KeepsInputs, good_items, all_left, sum-left, refs-fewer, targets-fewer, all_groups_left, group-sum-left}
+use Rattle.hf_store.proofs.Cuts.{filter-le, KeepsInputs, good_items, sum-left, refs-fewer, targets-fewer, all_groups_left, group-sum-left}
 use Rattle.hf_store.proofs.CutTables.{IsLess, less_left}
 use Rattle.hf_store.proofs.MetaCounts.{good_fours, valid_fours, meta_is_counted}
 

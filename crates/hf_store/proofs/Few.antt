@@ -1,5 +1,5 @@
 -- What is counted over a valid store is few.
-use Rattle.std.proofs.Common.{◌≡◌, ℕ, ◌+◌, ◌≤◌, ap, arith, inl}
+use Rattle.std.proofs.Common.{◌≡◌, ℕ, ◌+◌, ap, arith, inl}
 use Rattle.hf_store.specs.Capped.{capped_counts}
 use Rattle.hf_store.specs.Counts.{Counts, HasCounts, plus}
 use Rattle.hf_store.specs.Sizes.{counted_meta, AreFew}

@@ -1,6 +1,5 @@
 -- Sums that go on along a list, capped.
-use Rattle.std.proofs.Common.{◌≡◌, ℕ, ◌+◌, ◌<◌, ◌≤◌, List, [], ◌∷◌, ◌++◌, length, get_or, set, take, map, refl, sym, ap, ◌∙◌, arith, Some}
-use Rattle.std.specs.Prelude.{slice_get}
+use Rattle.std.proofs.Common.{◌≡◌, ℕ, ◌+◌, ◌<◌, ◌≤◌, List, length, get_or, set, take, sym, ap, ◌∙◌, arith}
 use Rattle.std.specs.List.{sum_by}
 use Rattle.std.proofs.lemmas.List.{take_all, take-set, get_or-set_same, length-map, length-set, map-set}
 use Rattle.std.proofs.lemmas.List.Sums.{sum_by_more}
@@ -11,8 +10,8 @@ use Rattle.hf_store.specs.Counts.{Counts, plus, counts_of_item, counts_of_group,
 use Rattle.hf_store.specs.Seen.{item_of, items_of}
 use Rattle.hf_store.specs.Store.{Item as StatedItem}
 use Rattle.hf_store.specs.declared.item.Item.{Item}
-use Rattle.hf_store.proofs.Capped.{capped-add, capped-plus}
-use Rattle.hf_store.proofs.Counted.{before-next, before-all, summed-next}
+use Rattle.hf_store.proofs.Capped.{capped-plus}
+use Rattle.hf_store.proofs.Counted.{one_more_before_the_next, all_before_the_end, summed-next}
 use Rattle.hf_store.proofs.Mapped.{here_at}
 use Rattle.hf_store.proofs.Spots.{get_map}
 
@@ -46,10 +45,10 @@ added_up so_far more counts part e f = ap (λ c. capped_counts (plus c part)) e 
 pub items-next : (is : List Item) (k : ℕ) (i : Item) (counts part : Counts) → k < length is → i ≡ get_or is k i → counts ≡ capped_counts (counts_before k (items_of is)) → part ≡ capped_counts (counts_of_item (item_of i))
     → capped_counts (plus counts part) ≡ capped_counts (counts_before (k + 1) (items_of is))
 items-next is k i counts part within here so_far more =
-    added_up (counts_before k (items_of is)) (counts_of_item (item_of i)) counts part so_far more ∙ ap capped_counts (sym (before-next (items_of is) k (item_of i) (get_map item_of is k i (here_at is k i within here))))
+    added_up (counts_before k (items_of is)) (counts_of_item (item_of i)) counts part so_far more ∙ ap capped_counts (sym (one_more_before_the_next (items_of is) k (item_of i) (get_map item_of is k i (here_at is k i within here))))
 
 pub items-all : (is : List Item) (k : ℕ) → length is ≤ k → capped_counts (counts_before k (items_of is)) ≡ capped_counts (counts_of_items (items_of is))
-items-all is k past = ap capped_counts (before-all (items_of is) k (omega (arith, past, length-map is item_of)))
+items-all is k past = ap capped_counts (all_before_the_end (items_of is) k (omega (arith, past, length-map is item_of)))
 
 pub groups-next : (gs : List CodeGroup) (k : ℕ) (g : CodeGroup) (counts part : Counts) → k < length gs → g ≡ get_or gs k g → counts ≡ capped_counts (counts_of_groups (take k (groups_of gs))) → part ≡ capped_counts (counts_of_group (group_of g))
     → capped_counts (plus counts part) ≡ capped_counts (counts_of_groups (take (k + 1) (groups_of gs)))
