@@ -15,6 +15,7 @@ ghost use Rattle.hf_table.specs.Table.{places_of, size_sum};
 
 mod build;
 mod changes;
+mod lists;
 
 use crate::Item;
 use crate::item::{GroupList, ItemList};
