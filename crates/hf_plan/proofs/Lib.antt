@@ -1,7 +1,7 @@
 pub mod Bounds
 pub mod CanonicalFiles
 pub mod CountedPlans
-pub mod Counts
+pub mod Mapped
 pub mod Large
 pub mod Lengths
 pub mod LongOffsets

@@ -44,7 +44,7 @@ picks-within wide n c b total is =
 idat-within : (wide : Bool) (n : ℕ) (c : Counts) (b : Inner) (total : ℕ) → total ≡ meta_size_by wide 8 n c b → c.idat ≤ total
 idat-within wide n c b total is = omega (arith, box_holds total _ is, le-if_any c.idat c.idat c.idat (omega arith) (λ none. none))
 
-counts_few : (s : ItemStore) → Valid s → AreFew (counts_of s)
+pub counts_few : (s : ItemStore) → Valid s → AreFew (counts_of s)
 unfolding counts_of
 counts_few s valid =
     let wide = is_wide s.items in

@@ -1,8 +1,14 @@
 pub mod BareLengths
 pub mod BoxLengths
+pub mod Capped
 pub mod Counted
 pub mod CountsAre
+pub mod Cuts
+pub mod CutSizes
+pub mod CutTables
+pub mod CutValid
 pub mod Ends
+pub mod Few
 pub mod FewCounts
 pub mod FieldLengths
 pub mod GridFiles
@@ -12,8 +18,8 @@ pub mod KeptLimits
 pub mod LaidFiles
 pub mod LargeStores
 pub mod Lengths
+pub mod Mapped
 pub mod References
-pub mod Places
 pub mod MetaCounts
 pub mod Needers
 pub mod Offsets
@@ -21,9 +27,10 @@ pub mod PlainLengths
 pub mod Reasons
 pub mod RefusedStores
 pub mod Removals
-pub mod Seen
+pub mod Removed
 pub mod ShortBoxes
 pub mod Sizes
 pub mod Spots
 pub mod Tables
+pub mod Tallied
 pub mod ValidStores

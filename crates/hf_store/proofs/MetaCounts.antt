@@ -165,13 +165,17 @@ all_of : {A : Type 0} (Q P : A → Type 0) (xs : List A) → AllByRecursion Q xs
 all_of Q P [] good each = tt
 all_of Q P (x ∷ xs) good each = (each x good.0, all_of Q P xs good.1 each)
 
-pub valid_fours : (s : ItemStore) → Valid s → AreFours s
-valid_fours s valid = record {
-  items = all_of (IsGoodItem s.items) IsFourItem s.items valid.items (λ i good. good.kind);
-  lists = all_of (IsGoodItem s.items) FourRefs s.items valid.items (λ i good. all_of (IsGoodRef s.items) IsFourList i.refs good.refs (λ r ref. ref.kind));
-  props = all_of (IsGoodItem s.items) (λ (i : Item). AllByRecursion (λ (h : Held). IsFour h.prop.kind) i.props) s.items valid.items (λ i good. good.prop_kinds);
-  groups = all_of (IsGoodGroup s.items) IsFourGroup s.groups valid.groups (λ g good. good.kind);
+-- of items that are good, and groups whose types are
+pub good_fours : (s : ItemStore) → AllByRecursion (IsGoodItem s.items) s.items → AllByRecursion IsFourGroup s.groups → AreFours s
+good_fours s good groups = record {
+  items = all_of (IsGoodItem s.items) IsFourItem s.items good (λ i item. item.kind);
+  lists = all_of (IsGoodItem s.items) FourRefs s.items good (λ i item. all_of (IsGoodRef s.items) IsFourList i.refs item.refs (λ r ref. ref.kind));
+  props = all_of (IsGoodItem s.items) (λ (i : Item). AllByRecursion (λ (h : Held). IsFour h.prop.kind) i.props) s.items good (λ i item. item.prop_kinds);
+  groups = groups;
 }
+
+pub valid_fours : (s : ItemStore) → Valid s → AreFours s
+valid_fours s valid = good_fours s valid.items (all_of (IsGoodGroup s.items) IsFourGroup s.groups valid.groups (λ g good. good.kind))
 
 -- the lists of items that are good in all else are short
 pub lists_are_short : (s : ItemStore) → AllByRecursion (IsGoodItem s.items) s.items → AllRefs IsShortList s.items

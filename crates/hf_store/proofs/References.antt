@@ -51,7 +51,7 @@ below_total a b =
       | inr (inr greater) ↦ inr (inr (nat_list_cmp_total.antisymm b.0 a.0 ∙ ap ordering_reverse greater))
     ]
 
-rises : (low : FourCc) (kinds : List FourCc) → RisesFrom IsBelow low kinds → Rises IsBelow kinds
+pub rises : (low : FourCc) (kinds : List FourCc) → RisesFrom IsBelow low kinds → Rises IsBelow kinds
 rises low [] h = tt
 rises low (x ∷ xs) h = h.1
 

@@ -1,6 +1,6 @@
 -- What is counted over the items and groups of a store. The lengths of the boxes of its canonical file follow from these
 -- counts, and each change of the store adds and takes those of the items that it changes.
-use Rattle.std.specs.Prelude.{◌≡◌, ◌+◌, ◌^◌, ℕ, List, length, filter, take, set, slice_get, Some, nat_lt, nat_le, if◌then◌else◌}
+use Rattle.std.specs.Prelude.{◌≡◌, ◌+◌, ◌^◌, ◌≤◌, ℕ, List, length, filter, take, set, slice_get, Some, nat_lt, nat_le, if◌then◌else◌}
 use Rattle.std.specs.List.{sum_by, flat_map, remove, insert}
 use Rattle.hf_box.specs.Written.{bit, zero_ended}
 use Rattle.hf_info.specs.Infe.{content_text, uri_text}
@@ -8,34 +8,7 @@ use Rattle.hf_store.specs.Layout.{own, is_wide, info_of, all_boxes, has_bytes, h
 use Rattle.hf_store.specs.Store.{RefList, Item, Group, ItemStore}
 use Rattle.hf_store.specs.Table.{props_of}
 use Rattle.hf_store.specs.Valid.{body_sum}
-
-pub record Counts : Type 0 where
-  -- items
-  pub items : ℕ
-  -- items that have bytes
-  pub located : ℕ
-  -- items whose id takes more than two bytes
-  pub wide : ℕ
-  -- bytes of the strings of `infe`, with the zero bytes that end them
-  pub strings : ℕ
-  -- reference lists: boxes of `iref`
-  pub links : ℕ
-  -- ids in those lists
-  pub targets : ℕ
-  -- items that have properties
-  pub holders : ℕ
-  -- properties of items: associations
-  pub picks : ℕ
-  -- bytes of items that stand in `idat`
-  pub idat : ℕ
-  -- bytes of items that stand in `mdat`
-  pub mdat : ℕ
-  -- groups
-  pub groups : ℕ
-  -- entities of groups
-  pub entities : ℕ
-  -- bytes behind the entities of groups
-  pub tails : ℕ
+pub use Rattle.hf_store.specs.declared.tally.Counts.{Counts}
 
 abbrev pub no_counts : Counts
 no_counts = record {
@@ -70,6 +43,22 @@ plus a b = record {
   entities = a.entities + b.entities;
   tails = a.tails + b.tails;
 }
+
+-- each count of a part is no greater
+pub record HasCounts (c part : Counts) : Type 0 where
+  pub items : part.items ≤ c.items
+  pub located : part.located ≤ c.located
+  pub wide : part.wide ≤ c.wide
+  pub strings : part.strings ≤ c.strings
+  pub links : part.links ≤ c.links
+  pub targets : part.targets ≤ c.targets
+  pub holders : part.holders ≤ c.holders
+  pub picks : part.picks ≤ c.picks
+  pub idat : part.idat ≤ c.idat
+  pub mdat : part.mdat ≤ c.mdat
+  pub groups : part.groups ≤ c.groups
+  pub entities : part.entities ≤ c.entities
+  pub tails : part.tails ≤ c.tails
 
 -- the counts of all elements of a list, given those of one
 abbrev pub summed : {A : Type 0} → (A → Counts) → List A → Counts

@@ -1,8 +1,10 @@
 pub mod BadStores
+pub mod Capped
 pub mod Changes
 pub mod Counts
 pub mod Derived
 pub mod LargeStores
+pub mod Kept
 pub mod Layout
 pub mod Offsets
 pub mod LimitStores
@@ -12,6 +14,7 @@ pub mod References
 pub mod Plain
 pub mod Seen
 pub mod Sizes
+pub mod Stays
 pub mod Store
 pub mod Table
 pub mod Valid

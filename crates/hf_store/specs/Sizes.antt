@@ -19,15 +19,10 @@ use Rattle.hf_store.specs.Layout.{Homes, own, is_wide, info_of, infos_of, all_bo
 use Rattle.hf_store.specs.Store.{Prop, Held, RefList, Item, Group, ItemStore}
 use Rattle.hf_store.specs.Table.{table_of}
 use Rattle.hf_store.specs.Valid.{IsFour, meta_len, Valid}
+-- the bytes of the boxes inside `iinf`, `iref`, `ipco` and `grpl`, headers included
+pub use Rattle.hf_store.specs.declared.size.Inner.{Inner}
 
 -- ---- the boxes inside others
-
--- the bytes of the boxes inside `iinf`, `iref`, `ipco` and `grpl`, headers included
-pub record Inner : Type 0 where
-  pub infes : ℕ
-  pub links : ℕ
-  pub props : ℕ
-  pub groups : ℕ
 
 abbrev pub infe_size : Bool → Item → ℕ
 infe_size wide i = length (infe_box wide (info_of i))

@@ -6,11 +6,7 @@ use Rattle.hf_head.specs.Ftyp.{Brands}
 pub use Rattle.hf_links.specs.Grpl.{Group}
 pub use Rattle.hf_prop.specs.declared.prop.Prop.{Prop}
 pub use Rattle.hf_prop.specs.declared.held.Held.{Held}
-
--- the references of one type that an item has: their type, and the ids of the items that they lead to
-pub record RefList : Type 0 where
-  pub kind : FourCc
-  pub to : List ℕ
+pub use Rattle.hf_store.specs.declared.item.RefList.{RefList}
 
 -- an item: what its `infe` says, its bytes, its properties in the order of their associations, its references
 pub record Item : Type 0 where

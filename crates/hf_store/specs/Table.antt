@@ -10,5 +10,9 @@ pub use Rattle.hf_table.specs.Table.{same_prop, with_prop, number_of}
 abbrev pub props_of : Item → List Prop
 props_of i = props_in i.props
 
+-- those of each item, items in order
+abbrev pub lists_of : ItemStore → List (List Prop)
+lists_of s = map props_of s.items
+
 unfoldable pub table_of : ItemStore → List Prop
 table_of s = table (flat_map props_of s.items)

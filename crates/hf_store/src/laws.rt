@@ -19,7 +19,7 @@ pub fn references_come_back()
     ensures once { ReferencesOnce }
 {}
 
-/// An edit against which there is no reason leaves a plain store valid and plain.
+/// An edit against which there is no reason leaves a valid store valid, and a plain one plain.
 pub fn steps_keep_validity()
     ensures valid { StepsKeepValidity }
     ensures plain { StepsKeepPlain }

@@ -4,6 +4,7 @@
 pub mod broken;
 pub mod changed;
 pub mod counting;
+mod cutting;
 pub mod derived;
 pub mod grids;
 mod item;
@@ -13,10 +14,13 @@ pub mod linked;
 pub mod plain;
 mod reason;
 mod removal;
+mod size;
 mod store;
+mod tally;
 pub mod worked;
 
-pub use item::Item;
+pub use item::{GroupList, Item, ItemList, Props, RefList, Refs};
 pub use reason::Reason;
-pub use removal::remove_item;
+pub use removal::{needed_by, remove_item};
 pub use store::{Parts, Store};
+pub use tally::{Counts, in_idat};

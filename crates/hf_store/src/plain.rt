@@ -2,7 +2,6 @@
 
 ghost use Rattle.std.specs.Prelude.{true, [], ◌∷◌, codes};
 ghost use Rattle.hf_store.specs.Plain.{IsPlain, IsPlainItem};
-ghost use Rattle.hf_store.specs.Seen.{ItemsAreSeen, PartsAreSeen, StoresAreSeen};
 ghost use Rattle.hf_store.specs.WorkedStores.{four_by_four, greatest_narrow_id, least_wide_id, one_empty_item, plain, references, two_alternatives, two_pictures, two_widths};
 
 /// A plain item has an id of two bytes, no mark, name, property or reference, and none of five types.
@@ -28,12 +27,4 @@ pub fn plain_stores()
     ensures wide { IsPlain least_wide_id → ⊥ }
     ensures second_wide { IsPlain two_widths → ⊥ }
     ensures grouped { IsPlain two_alternatives → ⊥ }
-{}
-
-/// The types of the code stand for each valid plain store: nothing of it is lost but what no plain
-/// store has.
-pub fn plain_stores_are_seen()
-    ensures items { ItemsAreSeen }
-    ensures parts { PartsAreSeen }
-    ensures stores { StoresAreSeen }
 {}

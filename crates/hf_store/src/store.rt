@@ -1,71 +1,75 @@
 //! The store of items.
 
-ghost use Rattle.std.specs.Prelude.{◌≡◌, ◌<◌, ◌≤◌, ◌^◌, length, map, IfSome, IfNone, Some, slice_get};
+ghost use Rattle.std.specs.Prelude.{◌≡◌, ◌<◌, ◌≤◌, ◌^◌, ◌↔◌, length, map, IfSome, IfNone, Some, slice_get, IsTrue};
+ghost use Rattle.std.specs.List.{flat_map};
 ghost use Rattle.hf_base.specs.declared.limits.TheConstants as limits;
 ghost use Rattle.hf_head.specs.Ftyp.{brands_of};
+ghost use Rattle.hf_links.specs.Grpl.{group_of};
+ghost use Rattle.hf_store.specs.Counts.{counts_of};
 ghost use Rattle.hf_store.specs.Lists.{IsIn};
 ghost use Rattle.hf_store.specs.Store.{ids_of};
-ghost use Rattle.hf_store.specs.Valid.{Valid, body_sum};
-ghost use Rattle.hf_store.specs.Plain.{IsPlain};
-ghost use Rattle.hf_store.specs.Changes.{id_at, removed};
-ghost use Rattle.hf_store.specs.Seen.{item_of, stated};
+ghost use Rattle.hf_store.specs.Table.{props_of, table_of};
+ghost use Rattle.hf_store.specs.Valid.{Valid, body_sum, meta_len};
+ghost use Rattle.hf_store.specs.Seen.{item_of};
+ghost use Rattle.hf_table.specs.Table.{places_of, size_sum};
+
+mod build;
+mod changes;
+mod lists;
 
 use crate::Item;
+use crate::item::{GroupList, ItemList};
+use crate::size::{meta_size, short_inner};
+use crate::tally::Counts;
 use hf_head::Brands;
+use hf_links::Group;
+use hf_prop::Prop;
+use hf_table::Uses;
 use std::marker::Model;
 
-/// What a store is made of. Together the parts are to be a valid store.
+/// What a store is made of.
 #[derive(Drop)]
 pub struct Parts<'a> {
     /// The brands of the file.
     pub brands: Brands<'a>,
     /// The id of the primary item.
     pub primary: u32,
-    /// The items, by rising id.
-    pub items: Vec<Item<'a>>,
+    /// The items.
+    pub items: ItemList<'a>,
+    /// The groups.
+    pub groups: GroupList<'a>,
 }
 
 /// The items of a file and what it says of them, without where anything lies in it. Its type keeps
-/// that it is valid, and plain: which stores are so is this project's own rule.
+/// that it is valid: which stores are so is this project's own rule. It keeps the distinct
+/// properties with the numbers of their holders, and what the length of `meta` follows from.
 #[derive(Drop)]
 pub struct Store<'a> {
     brands: Brands<'a>,
     primary: u32,
     items: Vec<Item<'a>>,
+    groups: Vec<Group<'a>>,
+    uses: Uses<'a>,
+    counts: Counts,
 }
 
 impl<'a> Model for Store<'a> {
     ghost use Rattle.hf_store.specs.Store.{ItemStore};
-    ghost use Rattle.hf_store.specs.Valid.{Valid};
-    ghost use Rattle.hf_store.specs.Plain.{IsPlain};
 
     ghost Value = { ItemStore };
 
     ghost use Rattle.hf_store.specs.Seen.{store_of};
+    ghost use Rattle.hf_store.specs.Kept.{IsKept};
 
     ghost view = { store_of };
 
-    ghost invariant = { λ s. Valid (store_of s) × IsPlain (store_of s) };
+    ghost invariant = { IsKept };
 }
 
 impl<'a> Store<'a> {
-    /// The store of these parts.
-    pub fn of(parts: Parts<'a>) -> Store<'a>
-        requires valid { Valid (stated parts) }
-        requires plain { IsPlain (stated parts) }
-        ensures { result ≡ stated parts.entry }
-    {
-        Store {
-            brands: parts.brands,
-            primary: parts.primary,
-            items: parts.items,
-        }
-    }
-
-    /// Does nothing, and says what the type keeps: the store is valid and plain.
-    pub fn valid_and_plain(&self)
-        ensures valid { Valid self.now }
-        ensures plain { IsPlain self.now }
+    /// Does nothing, and says what the type keeps: the store is valid.
+    pub fn valid(&self)
+        ensures { Valid self.now }
     {
         // What the type keeps is known where a field is read.
         let _ = &self.brands;
@@ -91,7 +95,6 @@ impl<'a> Store<'a> {
         ensures count { result ≡ length self.now.items }
         ensures few { result ≤ limits.ITEMS }
         ensures valid { Valid self.now }
-        ensures plain { IsPlain self.now }
     {
         self.items.len()
     }
@@ -104,33 +107,11 @@ impl<'a> Store<'a> {
         &self.items[i]
     }
 
-    /// Takes the item at a place out, counted from 0 by rising id.
-    pub fn remove(&mut self, i: usize)
-        requires place { i < length self.old.items }
-        requires valid { Valid (removed (id_at i self.old.items) self.old) }
-        ensures { self.new ≡ removed (id_at i self.old.items) self.old }
-    {
-        let _item = self.items.remove(i);
-    }
-
-    /// The bytes of all items, counted.
-    pub fn body_sum(&self) -> u64
-        ensures value { result ≡ body_sum self.now.items }
-        ensures few { result ≤ limits.BODY }
-    {
-        let mut sum = 0;
-        for i in 0..self.len() {
-            sum += self.at(i).body.len();
-        }
-        sum
-    }
-
     /// The place of the item with an id, counted from 0 by rising id.
     pub fn position(&self, id: u32) -> Option<usize>
         ensures some { IfSome result (λ i. slice_get (ids_of self.now.items) i ≡ Some id) }
         ensures none { IfNone result (IsIn id (ids_of self.now.items) → ⊥) }
         ensures valid { Valid self.now }
-        ensures plain { IsPlain self.now }
     {
         let mut low = 0;
         let mut high = self.len();
@@ -156,5 +137,74 @@ impl<'a> Store<'a> {
     {
         let i = self.position(id)?;
         Some(self.at(i))
+    }
+
+    /// How many groups there are.
+    pub fn group_count(&self) -> usize
+        ensures { result ≡ length self.now.groups }
+    {
+        self.groups.len()
+    }
+
+    /// The group at a place, counted from 0 by rising id.
+    pub fn group_at(&self, i: usize) -> &Group<'a>
+        requires { i < length self.now.groups }
+        ensures { slice_get self.now.groups i ≡ Some (group_of result.now) }
+    {
+        &self.groups[i]
+    }
+
+    /// Whether an item has a property, whatever its essential mark.
+    pub fn holds(&self, prop: &Prop<'a>) -> bool
+        ensures { IsTrue result ↔ (0 < places_of prop.now (flat_map props_of self.now.items)) }
+    {
+        self.uses.holds(prop)
+    }
+
+    /// At how many places the property lists of items have a property.
+    pub fn holders(&self, prop: &Prop<'a>) -> usize
+        ensures { result ≡ places_of prop.now (flat_map props_of self.now.items) }
+    {
+        self.uses.holders(prop)
+    }
+
+    /// How many distinct properties the items have.
+    pub fn kinds(&self) -> usize
+        ensures count { result ≡ length (table_of self.now) }
+        ensures few { result ≤ limits.KINDS }
+    {
+        self.uses.kinds()
+    }
+
+    /// The bytes of the boxes of the distinct properties.
+    pub fn kind_bytes(&self) -> u64
+        ensures { result ≡ size_sum (table_of self.now) }
+    {
+        self.uses.bytes()
+    }
+
+    /// The bytes of all items, counted.
+    pub fn body_sum(&self) -> u64
+        ensures value { result ≡ body_sum self.now.items }
+        ensures few { result ≤ limits.BODY }
+    {
+        self.counts.idat + self.counts.mdat
+    }
+
+    /// What is counted over the items and groups.
+    pub fn counts(&self) -> Counts
+        ensures { result ≡ counts_of self.now }
+    {
+        self.counts
+    }
+
+    /// The length of the `meta` box that is laid with offsets of eight bytes.
+    pub fn meta_size(&self) -> u64
+        ensures value { result ≡ meta_len self.now }
+        ensures few { result ≤ limits.META }
+    {
+        let wide = self.counts.wide > 0;
+        let inner = short_inner(wide, self.uses.bytes(), &self.counts);
+        meta_size(wide, self.uses.kinds(), &self.counts, &inner)
     }
 }

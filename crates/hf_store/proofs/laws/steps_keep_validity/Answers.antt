@@ -1,4 +1,5 @@
-use Rattle.hf_store.proofs.Removals.{steps_keep_validity, steps_keep_plain}
+use Rattle.hf_store.proofs.CutValid.{steps_keep_validity}
+use Rattle.hf_store.proofs.Removals.{steps_keep_plain}
 use Rattle.hf_store.proofs.laws.steps_keep_validity.Goals as goal
 
 pub returns : goal.returns

@@ -1,9 +1,21 @@
-use Rattle.std.proofs.Common.{arith}
-use Rattle.hf_store.proofs.Removals.{body_sum-here, body_sum-end}
+use Rattle.std.proofs.Common.{◌≡◌, ◌+◌, arith, ap, ◌∙◌}
+use Rattle.hf_store.specs.Counts.{Counts}
+use Rattle.hf_store.specs.Seen.{store_of}
+use Rattle.hf_store.specs.Store.{ItemStore}
+use Rattle.hf_store.specs.Valid.{body_sum}
+use Rattle.hf_store.proofs.CountsAre.{counts_are}
 use Rattle.hf_store.proofs.store.Store.body_sum.Goals as goal
 
-pub loop-i-preserved : goal.loop-i-preserved
-loop-i-preserved c = omega (arith, c.loop-i.invariant, c.len-sum.ensures.count, body_sum-here c.args.self.now.items c.loop-i.i _ c.at.ensures)
+pub overflow_add-result : goal.overflow_add-result
+overflow_add-result c =
+    let sum : c.self.inside.counts.idat + c.self.inside.counts.mdat ≡ body_sum (store_of c.self.inside).items = ap (λ (k : Counts). k.idat + k.mdat) c.self.invariant.counted ∙ (counts_are (store_of c.self.inside)).body in
+    omega (arith, sum, c.self.invariant.valid.body)
 
 pub returns-clause-value : goal.returns-clause-value
-returns-clause-value c = omega (arith, c.loop-i.invariant, body_sum-end c.args.self.now.items c.loop-i.i (omega arith))
+returns-clause-value c =
+    ap (λ (k : Counts). k.idat + k.mdat) c.self.invariant.counted ∙ (counts_are (store_of c.self.inside)).body ∙ ap (λ (s : ItemStore). body_sum s.items) c.self.view_is
+
+pub returns-clause-few : goal.returns-clause-few
+returns-clause-few c =
+    let sum : c.self.inside.counts.idat + c.self.inside.counts.mdat ≡ body_sum (store_of c.self.inside).items = ap (λ (k : Counts). k.idat + k.mdat) c.self.invariant.counted ∙ (counts_are (store_of c.self.inside)).body in
+    omega (arith, sum, c.self.invariant.valid.body)
