@@ -1,6 +1,6 @@
 -- Small files that are accepted, each with its store.
 -- The answers come from an independent model of the format, not from our own definitions.
--- A comment says what was changed in a valid file: boxes, bytes or, beside `aimed at`, what stands for a fault in other files.
+-- A comment says how the file came of a valid one: by which change to its boxes or bytes, or which faults were aimed at (another may come of it).
 use Rattle.std.specs.Prelude.{List, [], ◌∷◌, ◌++◌, true, false, codes}
 use Rattle.hf_box.specs.Literals.{four, hex_of}
 use Rattle.hf_store.specs.WorkedStores.{plain, essential, optional, references}

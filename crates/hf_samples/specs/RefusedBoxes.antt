@@ -1,7 +1,7 @@
 -- Small files that are refused, by the fault that is told. Boxes of the file, and of its `meta`.
 -- The answers come from an independent model of the format, not from our own definitions.
--- A comment says what was changed in a valid file: boxes, bytes or, beside `aimed at`, what stands for a fault; what is
--- `long` has boxes with sizes of 64 bits.
+-- A comment says how the file came of a valid one: by which change to its boxes or bytes, or which faults were aimed at (another may come of it).
+-- In files that are called long a box has a size of 64 bits; noise is bytes without boxes.
 use Rattle.std.specs.Prelude.{List, [], ◌∷◌, ◌++◌, replicate}
 use Rattle.hf_base.specs.declared.fault.ReadRefusal.TheVariants.{BadSize, Double, Missing, Movie, NoFtyp, NoMeta, NotMif1, OpenSize, ProtectionBox, Short, Xml}
 use Rattle.hf_box.specs.Literals.{four, hex_of}

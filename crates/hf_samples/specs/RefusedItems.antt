@@ -1,7 +1,6 @@
 -- Small files that are refused, by the fault that is told. The handler, and ids that are told twice or name nothing.
 -- The answers come from an independent model of the format, not from our own definitions.
--- A comment says what was changed in a valid file: boxes, bytes or, beside `aimed at`, what stands for a fault; what is
--- `long` has boxes with sizes of 64 bits.
+-- A comment says how the file came of a valid one: by which change to its boxes or bytes, or which faults were aimed at (another may come of it).
 use Rattle.std.specs.Prelude.{List, [], ◌∷◌, ◌++◌}
 use Rattle.hf_base.specs.declared.fault.ReadRefusal.TheVariants.{BadProperty, DanglingNeed, DoubleAssoc, DoubleGroup, DoubleItem, DoubleLocation, NoPrimary}
 use Rattle.hf_base.specs.declared.fault.ReadRefusal.TheVariants.{NotPicture, Protected, ZeroId}

@@ -1,7 +1,6 @@
 -- Small files that are refused, by the fault that is told. Places of bytes, and derived items.
 -- The answers come from an independent model of the format, not from our own definitions.
--- A comment says what was changed in a valid file: boxes, bytes or, beside `aimed at`, what stands for a fault; what is
--- `long` has boxes with sizes of 64 bits.
+-- A comment says how the file came of a valid one: by which change to its boxes or bytes, or which faults were aimed at (another may come of it).
 use Rattle.std.specs.Prelude.{List, [], ◌∷◌, ◌++◌}
 use Rattle.hf_base.specs.declared.fault.ReadRefusal.TheVariants.{BadDerived, BadIndex, BadMethod, DeriveCycle, External, LocCycle, NoIdat, OutOfFile, OutOfIdat}
 use Rattle.hf_base.specs.declared.fault.ReadRefusal.TheVariants.{OutOfItem, ZeroLength}
