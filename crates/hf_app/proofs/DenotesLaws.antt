@@ -1,5 +1,5 @@
 -- A file denotes at most one store, and one that is read without a fault denotes a store.
-use Rattle.std.proofs.Common.{◌≡◌, ℕ, ◌+◌, ◌≤◌, Bool, true, false, List, [], ◌∷◌, length, take, drop, Option, Some, None, Result, Ok, Err, refl, sym, ap, subst, ◌∙◌, arith}
+use Rattle.std.proofs.Common.{◌≡◌, ℕ, ◌+◌, ◌≤◌, true, false, List, [], ◌∷◌, length, take, drop, Option, Some, None, Result, Ok, Err, refl, sym, ap, subst, ◌∙◌}
 use Rattle.std.specs.Prelude.{◌↔◌}
 use Rattle.std.specs.List.{AllByRecursion}
 use Rattle.hf_base.specs.Number.{IsBytes}
@@ -16,8 +16,8 @@ use Rattle.hf_head.proofs.PitmLemmas.{one_value as one_primary}
 use Rattle.hf_store.specs.Lists.{IsIn}
 use Rattle.hf_store.specs.Store.{Item, Group, ItemStore, ids_of}
 use Rattle.hf_app.specs.Iinf.{Info, IsIinf}
-use Rattle.hf_app.specs.Iloc.{Loc, IsIloc}
-use Rattle.hf_app.specs.TopLevel.{of_kind, Parts, AreParts, parts_of}
+use Rattle.hf_app.specs.Iloc.{Loc}
+use Rattle.hf_app.specs.TopLevel.{of_kind, Parts, parts_of}
 use Rattle.hf_app.specs.Denotes.{AreLocs, IsItemOf, Denotes, DenotesWithin, Read, reading, fault_in, fault_of}
 use Rattle.hf_app.specs.Items.{store_at}
 use Rattle.hf_app.proofs.IinfLemmas.{infos_one}
@@ -25,7 +25,7 @@ use Rattle.hf_app.proofs.IlocLemmas.{locs_one}
 use Rattle.hf_app.proofs.LevelLemmas.{parts_read}
 use Rattle.hf_app.proofs.SortLemmas.{by_id}
 use Rattle.hf_app.proofs.ItemLemmas.{same_items}
-use Rattle.hf_app.proofs.ReadLemmas.{IsRead, is_read, read_again}
+use Rattle.hf_app.proofs.ReadLemmas.{is_read, read_again}
 use Rattle.hf_app.proofs.StoreLemmas.{store_denoted, by_id_sorted, read_of, read_from}
 
 single : (a b : BoxAt) (all : List BoxAt) → all ≡ a ∷ [] → all ≡ b ∷ [] → a ≡ b

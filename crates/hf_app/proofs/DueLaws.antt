@@ -1,9 +1,8 @@
 -- What is due of a file is one thing, and what it means that `edit` ends Done.
-use Rattle.std.proofs.Common.{◌≡◌, ℕ, ◌+◌, ◌<◌, ◌≤◌, List, [], ◌∷◌, length, refl, sym, ap, ◌∙◌, inl, inr, ◌⊎◌, arith, subst, Result, Ok, Err}
-use Rattle.std.specs.Prelude.{Option, Some, None}
+use Rattle.std.proofs.Common.{◌≡◌, ℕ, List, [], sym, ap, ◌∙◌, inl, inr, arith, subst, Result, Ok, Err}
+use Rattle.std.specs.Prelude.{Some}
 use Rattle.hf_base.specs.declared.fault.ReadRefusal.{ReadRefusal}
-use Rattle.hf_base.specs.declared.limits.TheConstants.{FILE}
-use Rattle.hf_desk.specs.Outside.{Outside, Files, file_of}
+use Rattle.hf_desk.specs.Outside.{Outside}
 use Rattle.hf_desk.specs.Calls.{IfTold}
 use Rattle.hf_desk.specs.Making.{IsMade}
 use Rattle.hf_desk.proofs.Frames.{told_map}
@@ -14,12 +13,10 @@ use Rattle.hf_store.specs.declared.reason.Reason.TheVariants.{NoItem}
 use Rattle.hf_plan.specs.Canon.{Canon}
 use Rattle.hf_plan.proofs.OneFile.{one_canon}
 use Rattle.hf_app.specs.Answers.{Ends, Answers}
-use Rattle.hf_app.specs.Denotes.{Denotes, fault_of}
 use Rattle.hf_app.specs.Due.{Due, IsDueOf, IsDueOfEdits, answered}
 use Rattle.hf_app.specs.Edits.{IsEdited, IsRefused, stepped}
-use Rattle.hf_app.specs.Words.{Command, Boxes, EditFile}
-use Rattle.hf_app.specs.declared.outcome.Outcome.{Outcome}
-use Rattle.hf_app.specs.declared.outcome.Outcome.TheVariants.{Done, Unfit, Refused, TooLong}
+use Rattle.hf_text.specs.Words.{Command, Boxes, EditFile}
+use Rattle.hf_text.specs.declared.outcome.Outcome.TheVariants.{Done, Unfit, Refused}
 use Rattle.hf_app.proofs.DenotesLaws.{denotes_one}
 
 abbrev pub Stepped : Type 0

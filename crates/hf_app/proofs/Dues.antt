@@ -1,27 +1,27 @@
 -- What is due of a file that was read, and what a command answered.
-use Rattle.std.proofs.Common.{◌≡◌, ℕ, ◌+◌, ◌<◌, ◌≤◌, List, [], length, true, refl, sym, ap, ◌∙◌, inl, inr, ◌⊎◌, arith, subst, Result, Ok, Err, IsOk}
-use Rattle.std.specs.Prelude.{Option, Some, None, IsSome, IsSomeAnd, OnOk, OnErr, ⊤}
+use Rattle.std.proofs.Common.{◌≡◌, ℕ, ◌<◌, ◌≤◌, List, [], length, refl, sym, ap, ◌∙◌, inl, inr, ◌⊎◌, subst, Result, Ok, Err}
+use Rattle.std.specs.Prelude.{Option, Some, None, IsSome, IsSomeAnd}
 use Rattle.hf_base.specs.declared.fault.ReadRefusal.{ReadRefusal}
 use Rattle.hf_base.specs.declared.limits.TheConstants.{FILE}
 use Rattle.hf_box.specs.declared.view.BoxRow.{BoxRow}
 use Rattle.hf_box.specs.Walk.{walk_at}
 use Rattle.hf_desk.specs.Outside.{Outside, Files, file_of}
 use Rattle.hf_desk.specs.Calls.{IfTold, HasFile, Rose, Said, SaidFront}
-use Rattle.hf_desk.specs.Making.{IsMade, IsUnmade, IsMadeInPart, Makes}
+use Rattle.hf_desk.specs.Making.{IsMade, IsUnmade, IsMadeInPart}
 use Rattle.hf_desk.proofs.Frames.{told_for, told_map}
 use Rattle.hf_desk.specs.declared.read.ReadStop.{ReadStop}
 use Rattle.hf_desk.specs.declared.read.ReadStop.TheVariants as reads
 use Rattle.hf_store.specs.Changes.{Edit}
 use Rattle.hf_app.specs.declared.editing.Stop.{Stop}
 use Rattle.hf_app.specs.declared.editing.Stop.TheVariants as stops
-use Rattle.hf_app.specs.declared.outcome.Outcome.{Outcome}
-use Rattle.hf_app.specs.declared.outcome.Outcome.TheVariants.{Done, Usage, Unfit, Refused, TooLong, ReadFault, WriteFault, NoMemory}
+use Rattle.hf_text.specs.declared.outcome.Outcome.{Outcome}
+use Rattle.hf_text.specs.declared.outcome.Outcome.TheVariants.{Done, Usage, Unfit, Refused, TooLong, ReadFault, WriteFault, NoMemory}
 use Rattle.hf_app.specs.Answers.{Answers, Ends, ForDue, ForFile, HasCause, HasDue, IsDueOrNoMemory}
 use Rattle.hf_app.specs.Due.{Due, IsDefined, IsDue, IsDueOf, IsDueOfEdits, answered, due_of_rows, input_of}
 use Rattle.hf_app.specs.Edits.{IsEdited, Stops}
 use Rattle.hf_app.specs.Stops.{outcome_of_read, outcome_of_stop}
-use Rattle.hf_app.specs.Texts.{rows_text}
-use Rattle.hf_app.specs.Words.{Command, Boxes, EditFile}
+use Rattle.hf_text.specs.Texts.{rows_text}
+use Rattle.hf_text.specs.Words.{Command, Boxes, EditFile}
 
 -- the file that is told has these bytes
 abbrev HasBytes : Outside → List ℕ → List ℕ → Type 0

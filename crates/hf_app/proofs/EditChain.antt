@@ -1,18 +1,13 @@
 -- Edits one after the other.
-use Rattle.std.proofs.Common.{◌≡◌, ℕ, zero, suc, ◌+◌, ◌<◌, length, map, drop, get_or, Bool, true, false, List, [], ◌∷◌, refl, sym, ap, ◌∙◌, inl, inr, arith, Result, Ok, Err}
-use Rattle.std.specs.Prelude.{◌&&◌, ◌||◌, not, ◌==◌, Option, Some, None, slice_get, if◌then◌else◌}
-use Rattle.std.specs.List.{list_any}
-use Rattle.std.proofs.lemmas.Bool.{cases_Bool, eqb-true, eq-eqb}
+use Rattle.std.proofs.Common.{◌≡◌, ℕ, ◌+◌, ◌<◌, length, map, drop, get_or, List, [], ◌∷◌, refl, ap, Ok, Err}
+use Rattle.std.specs.Prelude.{Some, None}
 use Rattle.std.proofs.lemmas.List.{drop_more}
-use Rattle.hf_store.specs.Lists.{IsIn}
-use Rattle.hf_store.specs.Store.{Item, ItemStore, ids_of}
-use Rattle.hf_store.specs.Plain.{IsPlain, ArePlain}
-use Rattle.hf_store.specs.Changes.{Edit, needs, needed_by, step, why, why_not_removed}
+use Rattle.hf_store.specs.Store.{ItemStore}
+use Rattle.hf_store.specs.Changes.{Edit, step, why}
 use Rattle.hf_store.specs.declared.reason.Reason.{Reason}
-use Rattle.hf_store.specs.declared.reason.Reason.TheVariants.{NoItem, IsPrimary}
-use Rattle.hf_app.specs.Commands.{edit_of}
-use Rattle.hf_app.specs.Edits.{unless, stepped}
-use Rattle.hf_app.specs.declared.words.EditWord.{EditWord}
+use Rattle.hf_text.specs.Commands.{edit_of}
+use Rattle.hf_app.specs.Edits.{stepped}
+use Rattle.hf_text.specs.declared.words.EditWord.{EditWord}
 
 -- one more edit was made, or is refused
 pub stepped-more : (n : ℕ) (s : ItemStore) (e : Edit) (es : List Edit) → why s e ≡ None → stepped n s (e ∷ es) ≡ stepped (n + 1) (step s e) es

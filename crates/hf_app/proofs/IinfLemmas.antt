@@ -3,18 +3,18 @@ use Rattle.std.proofs.Common.{◌≡◌, ℕ, ◌^◌, ◌<◌, ◌%◌, Bool, t
 use Rattle.std.specs.Prelude.{IsTrue, IfOk, ◌↔◌}
 use Rattle.std.specs.Global.{Vec}
 use Rattle.std.proofs.lemmas.List.{append-nil}
-use Rattle.std.proofs.lemmas.Bool.{and_parts, eqb-true, eq-eqb, ltb-true, lt-ltb, ltb-false, le-ltb}
+use Rattle.std.proofs.lemmas.Bool.{and_parts, eqb-true, eq-eqb, ltb-true, lt-ltb, ltb-false}
 use Rattle.hf_base.specs.declared.four.FourCc.{FourCc}
 use Rattle.hf_base.specs.declared.fault.ReadRefusal.{ReadRefusal}
 use Rattle.hf_base.specs.declared.fault.ReadRefusal.TheVariants.{Later}
 use Rattle.hf_base.specs.declared.kinds.TheConstants.{IINF, INFE}
 use Rattle.hf_base.specs.Number.{IsBytes, num}
-use Rattle.hf_base.specs.Reading.{◌>>=◌, front, front_four, front_full, full, times, Gives, MatchOpen}
+use Rattle.hf_base.specs.Reading.{front, front_four, front_full, full, times, Gives, MatchOpen}
 use Rattle.hf_base.specs.declared.fault.OpenFault.{OpenFault}
 use Rattle.hf_base.specs.declared.fault.OpenFault.TheVariants as errors
-use Rattle.hf_base.specs.ReadingLaws.{bind_ok, ok_is, Takes, Takes-then, front_takes, front_again, four_takes, four_again, full_takes, full_again}
+use Rattle.hf_base.specs.ReadingLaws.{bind_ok, ok_is, Takes-then, front_takes, front_again, four_takes, four_again, full_takes, full_again}
 use Rattle.hf_box.specs.Walk.{is_kind}
-use Rattle.hf_app.specs.Entries.{AreTexts, are_distinct, refuse_if}
+use Rattle.hf_app.specs.Entries.{are_distinct, refuse_if}
 use Rattle.hf_app.specs.Iinf.{Info, infos_of, is_plain_kind, IsInfe, IsIinf, is_plain_infe, infe_at, has_bytes, infos_at, iinf_at}
 use Rattle.hf_app.specs.declared.iinf.Info.{Info as View}
 use Rattle.hf_app.proofs.EntryLemmas.{is_same, same_is, refused_not, not_false, TakesText, texts_take, texts_again}

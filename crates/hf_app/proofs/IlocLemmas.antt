@@ -1,18 +1,18 @@
 -- A plain `iloc` is read as its entries, and nothing else is.
-use Rattle.std.proofs.Common.{◌≡◌, ℕ, ◌^◌, ◌<◌, Bool, true, false, not, ◌&&◌, cond, eqb, ltb, List, [], ◌∷◌, ◌++◌, length, map, Result, Ok, Err, refl, sym, ap, subst, ◌∙◌, append_assoc, arith}
-use Rattle.std.specs.Prelude.{IsTrue, IfOk, ◌↔◌}
+use Rattle.std.proofs.Common.{◌≡◌, ℕ, ◌^◌, ◌<◌, Bool, true, false, not, ◌&&◌, cond, eqb, ltb, List, [], ◌++◌, length, map, Result, Ok, Err, refl, sym, ap, subst, ◌∙◌, append_assoc, arith}
+use Rattle.std.specs.Prelude.{IfOk, ◌↔◌}
 use Rattle.std.specs.Global.{Vec}
 use Rattle.std.proofs.lemmas.List.{append-nil}
-use Rattle.std.proofs.lemmas.Bool.{and_parts, eqb-true, eq-eqb, ltb-true, lt-ltb}
+use Rattle.std.proofs.lemmas.Bool.{and_parts, eqb-true, ltb-true, lt-ltb}
 use Rattle.hf_base.specs.declared.fault.ReadRefusal.{ReadRefusal}
 use Rattle.hf_base.specs.declared.fault.ReadRefusal.TheVariants.{Later}
 use Rattle.hf_base.specs.declared.fault.OpenFault.{OpenFault}
 use Rattle.hf_base.specs.declared.fault.OpenFault.TheVariants as errors
 use Rattle.hf_base.specs.declared.kinds.TheConstants.{ILOC}
 use Rattle.hf_base.specs.Number.{IsBytes, num}
-use Rattle.hf_base.specs.Reading.{◌>>=◌, front, front_full, full, times, Gives, MatchOpen}
-use Rattle.hf_base.specs.ReadingLaws.{bind_ok, ok_is, Takes, Takes-then, front_takes, front_again, full_takes, full_again}
-use Rattle.hf_app.specs.Entries.{AreTexts, are_distinct, refuse_if}
+use Rattle.hf_base.specs.Reading.{front, front_full, full, times, Gives, MatchOpen}
+use Rattle.hf_base.specs.ReadingLaws.{bind_ok, ok_is, Takes-then, front_takes, front_again, full_takes, full_again}
+use Rattle.hf_app.specs.Entries.{are_distinct, refuse_if}
 use Rattle.hf_app.specs.Iinf.{has_bytes}
 use Rattle.hf_app.specs.Iloc.{Loc, locs_of, IsEntry, IsIloc, is_plain_entry, entry_at, count_at, locs_at, iloc_at}
 use Rattle.hf_app.specs.declared.iloc.Loc.{Loc as View}

@@ -1,5 +1,5 @@
 -- The items of a file: at most one list of them rises by id.
-use Rattle.std.proofs.Common.{◌≡◌, ℕ, zero, suc, ◌+◌, ◌≤◌, ◌<◌, Bool, true, false, List, [], ◌∷◌, length, take, drop, map, Option, Some, None, refl, sym, ap, subst, ◌∙◌, arith, inl, inr, ◌⊎◌}
+use Rattle.std.proofs.Common.{◌≡◌, ℕ, ◌≤◌, ◌<◌, true, List, [], ◌∷◌, Option, Some, None, refl, sym, ap, subst, ◌∙◌, arith, inl, inr}
 use Rattle.std.specs.List.{AllByRecursion}
 use Rattle.std.proofs.lemmas.Bool.{cases_order}
 use Rattle.hf_store.specs.Lists.{IsIn, RisesFrom}
@@ -9,7 +9,7 @@ use Rattle.hf_app.specs.Iinf.{Info}
 use Rattle.hf_app.specs.Iloc.{Loc}
 use Rattle.hf_app.specs.Denotes.{loc_of, AreBytesOf, plain_item, IsItemOf}
 use Rattle.hf_app.proofs.IinfLemmas.{ids}
-use Rattle.hf_app.proofs.SortLemmas.{in_all, all_from, same_id}
+use Rattle.hf_app.proofs.SortLemmas.{in_all, same_id}
 
 bytes_one : (F : List ℕ) (o : Option Loc) (a b : List ℕ) → AreBytesOf F o a → AreBytesOf F o b → a ≡ b
 bytes_one F None a b x y = x ∙ sym y

@@ -1,26 +1,25 @@
 -- The boxes of a plain file, and those of its `meta`: reading from left to right finds exactly them.
-use Rattle.std.proofs.Common.{◌≡◌, ℕ, zero, suc, ◌+◌, ◌≤◌, ◌<◌, Bool, true, false, not, ◌&&◌, ◌||◌, cond, List, [], ◌∷◌, ◌++◌, length, length-append, take, filter, Result, Ok, Err, Option, Some, None, refl, sym, ap, subst, ◌∙◌, append_assoc, arith, inl, inr, ◌⊎◌}
+use Rattle.std.proofs.Common.{◌≡◌, ◌≤◌, true, false, not, ◌&&◌, ◌||◌, List, [], ◌∷◌, ◌++◌, length, take, Ok, Err, Option, Some, None, refl, sym, ap, subst, ◌∙◌, arith, inl, inr}
 use Rattle.std.specs.Prelude.{IfSome}
-use Rattle.std.specs.List.{list_any, find, AllByRecursion}
+use Rattle.std.specs.List.{AllByRecursion}
 use Rattle.std.specs.Option.{option_to_list}
 use Rattle.std.specs.Str.{bytes_eq}
-use Rattle.std.proofs.lemmas.Bool.{cases_Bool, or_cases, or_parts, and_parts}
+use Rattle.std.proofs.lemmas.Bool.{cases_Bool, or_parts}
 use Rattle.std.proofs.lemmas.Slice.Eq.{bytes_eq-Decides}
 use Rattle.hf_base.specs.Reading.{◌>>=◌}
 use Rattle.hf_base.specs.ReadingLaws.{bind_ok, ok_is}
 use Rattle.hf_base.specs.declared.four.FourCc.{FourCc}
-use Rattle.hf_base.specs.declared.fault.ReadRefusal.{ReadRefusal}
-use Rattle.hf_base.specs.declared.fault.ReadRefusal.TheVariants.{NoFtyp, NotMif1, Movie, NoMeta, Double, ProtectionBox, Xml, Missing, Later}
+use Rattle.hf_base.specs.declared.fault.ReadRefusal.TheVariants.{NoFtyp, NotMif1, Movie, NoMeta, ProtectionBox, Xml, Missing, Later}
 use Rattle.hf_base.specs.declared.kinds.TheConstants.{FTYP, META, HDLR, PITM, MOOV, MOOF, IINF, ILOC, IREF, IPRP, GRPL, IDAT, IPRO, XML, BXML}
 use Rattle.hf_box.specs.Boxes.{BoxAt}
 use Rattle.hf_box.specs.Walk.{is_kind}
-use Rattle.hf_box.proofs.SameKinds.{same_kind, is_same_kind, other_kind}
+use Rattle.hf_box.proofs.SameKinds.{same_kind, is_same_kind}
 use Rattle.hf_head.specs.Ftyp.{Brands, ftyp_at}
 use Rattle.hf_store.specs.Lists.{IsIn}
 use Rattle.hf_app.specs.Entries.{refuse_if}
-use Rattle.hf_app.specs.TopLevel.{of_kind, has_kind, first_of, is_among, found, first_fault, double_fault, IsTopLevel, top_once, movie_fault, top_box_fault, ftyp_of, has_mif1, brands_at, top_of, Parts, AreParts, once, banned_fault, child_fault, parts_of, empty_iprp_body, is_later, later_child, ArePlain}
+use Rattle.hf_app.specs.TopLevel.{of_kind, first_of, is_among, found, first_fault, double_fault, IsTopLevel, top_once, movie_fault, top_box_fault, ftyp_of, has_mif1, brands_at, top_of, Parts, AreParts, once, banned_fault, child_fault, parts_of, empty_iprp_body, is_later, later_child, ArePlain}
 use Rattle.hf_app.proofs.EntryLemmas.{refused_not, not_false}
-use Rattle.hf_app.proofs.TopLemmas.{Fault, fine, Bans, IsOnce, none_banned, few, no_fault, nowhere, double_once, not_double, first_from, first_option, few_option, first_is, find_some, in_among}
+use Rattle.hf_app.proofs.TopLemmas.{fine, Bans, IsOnce, none_banned, few, no_fault, nowhere, double_once, not_double, first_from, first_option, few_option, first_is, find_some, in_among}
 
 -- ---- the top level
 

@@ -7,10 +7,7 @@ pub mod DistinctIds
 pub mod DueLaws
 pub mod Dues
 pub mod EditChain
-pub mod EditLaws
-pub mod EditSteps
 pub mod EntryLemmas
-pub mod Fronts
 pub mod IinfLemmas
 pub mod IlocLemmas
 pub mod ItemLemmas
@@ -23,4 +20,3 @@ pub mod SomethingDue
 pub mod SortLemmas
 pub mod StoreLemmas
 pub mod TopLemmas
-pub mod WordLaws

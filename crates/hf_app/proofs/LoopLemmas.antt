@@ -1,6 +1,5 @@
 -- The first fault of boxes, as a loop over them finds it.
-use Rattle.std.proofs.Common.{◌≡◌, ℕ, ◌+◌, ◌≤◌, ◌<◌, Bool, true, false, not, ◌&&◌, ◌||◌, List, [], ◌∷◌, ◌++◌, length, take, drop, get_or, Result, Ok, Err, Option, Some, None, refl, sym, ap, subst, ◌∙◌, arith, inl, inr}
-use Rattle.std.specs.List.{find}
+use Rattle.std.proofs.Common.{◌≡◌, ℕ, ◌+◌, ◌≤◌, ◌<◌, Bool, true, false, not, ◌||◌, List, [], ◌∷◌, ◌++◌, length, take, drop, get_or, Result, Err, Some, None, refl, sym, ap, ◌∙◌, arith, inl, inr}
 use Rattle.std.proofs.lemmas.Bool.{cases_Bool}
 use Rattle.std.proofs.lemmas.List.{drop_more, map_more, drop_all, take-append-drop, map-append}
 use Rattle.std.proofs.lemmas.List.Folds.{list_any-append}
@@ -15,7 +14,7 @@ use Rattle.hf_base.specs.declared.fault.OpenFault.TheVariants as errors
 use Rattle.hf_box.specs.declared.view.BoxView.{BoxView}
 use Rattle.hf_box.specs.Boxes.{BoxAt, box_of, boxes_of}
 use Rattle.hf_box.specs.Walk.{is_kind}
-use Rattle.hf_box.proofs.SameKinds.{same_kind, is_same_kind}
+use Rattle.hf_box.proofs.SameKinds.{is_same_kind}
 use Rattle.hf_app.specs.TopLevel.{has_kind, first_of, is_among, first_fault, Knows, has_brand, is_later, later_child, empty_iprp_body}
 use Rattle.hf_app.proofs.TopLemmas.{Fault, fine, has-push, kind_flip}
 

@@ -1,5 +1,5 @@
 -- The store that is made of a file that was read.
-use Rattle.std.proofs.Common.{◌≡◌, ℕ, zero, suc, ◌≤◌, ◌<◌, false, List, [], ◌∷◌, length, map, get_or, Option, Some, None, Result, Ok, Err, refl, sym, ap, subst, ◌∙◌, arith, All}
+use Rattle.std.proofs.Common.{◌≡◌, ℕ, zero, suc, ◌≤◌, ◌<◌, List, [], ◌∷◌, length, get_or, Some, None, Ok, refl, sym, ap, subst, ◌∙◌, arith, All}
 use Rattle.std.specs.List.{AllByRecursion}
 use Rattle.std.specs.List.Sorted.{IsPermutation, IsNonDecreasingBy}
 use Rattle.std.specs.BTreeMap.{BTreeMap}
@@ -8,19 +8,18 @@ use Rattle.std.proofs.lemmas.List.Elements.{All-from_recursion}
 use Rattle.std.proofs.lemmas.List.Sorted.{IsPermutation-map}
 use Rattle.hf_base.specs.Number.{IsBytes}
 use Rattle.hf_base.specs.Reading.{Fails, IfUnfit}
-use Rattle.hf_base.specs.declared.fault.ReadRefusal.{ReadRefusal}
 use Rattle.hf_base.specs.declared.fault.OpenFault.{OpenFault}
 use Rattle.hf_base.specs.declared.fault.OpenFault.TheVariants as errors
 use Rattle.hf_base.specs.declared.limits.TheConstants as limits
-use Rattle.hf_store.specs.Store.{Item, ItemStore}
+use Rattle.hf_store.specs.Store.{Item}
 use Rattle.hf_store.specs.Valid.{Valid}
 use Rattle.hf_store.specs.Plain.{IsPlain}
 use Rattle.hf_app.specs.Iinf.{Info, info_of, infos_of}
 use Rattle.hf_app.specs.Iloc.{Loc}
 use Rattle.hf_app.specs.declared.iinf.Info.{Info as View}
 use Rattle.hf_app.specs.declared.iloc.Loc.{Loc as LocView}
-use Rattle.hf_app.specs.Denotes.{loc_of, is_out, Denotes, Read, reading, fault_in, fault_of}
-use Rattle.hf_app.specs.Items.{items_at, store_at, LiesWithin}
+use Rattle.hf_app.specs.Denotes.{is_out, Denotes, Read, reading, fault_in, fault_of}
+use Rattle.hf_app.specs.Items.{items_at, LiesWithin}
 use Rattle.hf_app.specs.Places.{Finds}
 use Rattle.hf_app.proofs.ReadLemmas.{IsRead, is_read}
 use Rattle.hf_app.proofs.StoreLemmas.{IsWithin, AreSorted, are_sorted, sorted_within, store_plain, store_valid, store_denoted}

@@ -1,14 +1,10 @@
 -- A file that is read from left to right without a fault, by its parts.
-use Rattle.std.proofs.Common.{◌≡◌, ℕ, ◌+◌, ◌≤◌, ◌<◌, Bool, true, false, not, ◌||◌, cond, ltb, eqb, List, [], ◌∷◌, ◌++◌, length, length-append, take, drop, map, Result, Ok, Err, Option, Some, None, refl, sym, ap, subst, ◌∙◌, arith, inl, inr, ◌⊎◌}
-use Rattle.std.specs.List.{list_any, find, fold, sum_by, AllByRecursion}
-use Rattle.std.specs.Option.{option_to_list}
+use Rattle.std.proofs.Common.{◌≡◌, ℕ, ◌+◌, ◌≤◌, Bool, true, false, not, ltb, List, [], ◌∷◌, ◌++◌, length, drop, Ok, Err, Option, Some, None, refl, sym, ap, subst, ◌∙◌, inl, inr}
 use Rattle.std.proofs.lemmas.Bool.{cases_Bool, ltb-false, le-ltb}
 use Rattle.hf_base.specs.Number.{IsBytes}
-use Rattle.hf_base.specs.Reading.{◌>>=◌}
 use Rattle.hf_base.specs.ReadingLaws.{bind_ok, chosen, ok_is, IsBytes-drop}
 use Rattle.hf_base.specs.declared.four.FourCc.{FourCc}
-use Rattle.hf_base.specs.declared.fault.ReadRefusal.{ReadRefusal}
-use Rattle.hf_base.specs.declared.fault.ReadRefusal.TheVariants.{BadRecord, NoPrimary, OutOfFile, TooManyBytes, Later}
+use Rattle.hf_base.specs.declared.fault.ReadRefusal.TheVariants.{BadRecord, NoPrimary, TooManyBytes, Later}
 use Rattle.hf_base.specs.declared.kinds.TheConstants.{FTYP, META, HDLR, PITM, IINF, ILOC}
 use Rattle.hf_base.specs.declared.limits.TheConstants.{BODY, BOXES}
 use Rattle.hf_box.specs.Boxes.{BoxAt, IsBoxes}
@@ -16,15 +12,15 @@ use Rattle.hf_box.specs.Framing.{frames}
 use Rattle.hf_box.specs.Walk.{is_kind, children_at}
 use Rattle.hf_box.proofs.Lists.{frames_spell, boxes_read}
 use Rattle.hf_box.proofs.BoxLaws.{body_is_bytes}
-use Rattle.hf_head.specs.Ftyp.{Brands, IsFtyp, ftyp_at}
+use Rattle.hf_head.specs.Ftyp.{Brands, IsFtyp}
 use Rattle.hf_head.specs.Hdlr.{IsHdlr, hdlr_at}
 use Rattle.hf_head.specs.Pitm.{IsPitm, pitm_at}
 use Rattle.hf_head.proofs.FtypLemmas.{ftyp_found, ftyp_only}
 use Rattle.hf_head.proofs.HdlrLemmas.{hdlr_found, hdlr_only}
 use Rattle.hf_head.proofs.PitmLemmas.{pitm_found, pitm_only}
 use Rattle.hf_app.specs.Entries.{refuse_if}
-use Rattle.hf_app.specs.Iinf.{Info, IsIinf, iinf_at}
-use Rattle.hf_app.specs.Iloc.{Loc, IsIloc, iloc_at}
+use Rattle.hf_app.specs.Iinf.{IsIinf, iinf_at}
+use Rattle.hf_app.specs.Iloc.{Loc}
 use Rattle.hf_app.specs.TopLevel.{of_kind, first_of, first_fault, IsTopLevel, has_mif1, top_of, Parts, AreParts, parts_of, later_child, ArePlain}
 use Rattle.hf_app.specs.Denotes.{AreLocs, Read, locs_in, has_info, least_out, out_fault, size_of, places_fault, entries_at, reading_parts, reading_meta, reading}
 use Rattle.hf_app.proofs.EntryLemmas.{refused_not, not_false}

@@ -1,5 +1,5 @@
 -- Something is due of each file.
-use Rattle.std.proofs.Common.{◌≡◌, ℕ, ◌+◌, ◌<◌, ◌≤◌, List, [], ◌∷◌, length, refl, subst, inl, inr, arith, Result, Ok, Err}
+use Rattle.std.proofs.Common.{◌≡◌, ℕ, ◌+◌, ◌≤◌, List, [], ◌∷◌, length, refl, subst, inl, inr, Ok, Err}
 use Rattle.std.specs.Prelude.{Option, Some, None}
 use Rattle.std.proofs.lemmas.Bool.{cases_lt}
 use Rattle.hf_base.specs.Number.{IsBytes}
@@ -17,8 +17,8 @@ use Rattle.hf_app.specs.Denotes.{Denotes, reading, fault_of}
 use Rattle.hf_app.specs.Due.{Due, IsDueOf, IsDueOfFile, IsDueOfEdits, answered, due_of_rows}
 use Rattle.hf_app.specs.Edits.{unless, stepped}
 use Rattle.hf_app.specs.Items.{store_at}
-use Rattle.hf_app.specs.Words.{Command, Boxes, EditFile}
-use Rattle.hf_app.specs.declared.outcome.Outcome.TheVariants.{Unfit, Refused, TooLong}
+use Rattle.hf_text.specs.Words.{Command, Boxes, EditFile}
+use Rattle.hf_text.specs.declared.outcome.Outcome.TheVariants.{Unfit, Refused, TooLong}
 use Rattle.hf_app.proofs.Denoting.{canon_denotes}
 use Rattle.hf_app.proofs.DenotesLaws.{fault_none}
 use Rattle.hf_app.proofs.DueLaws.{Stepped, made}

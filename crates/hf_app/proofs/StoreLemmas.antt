@@ -1,16 +1,15 @@
 -- The store of a file that was read.
-use Rattle.std.proofs.Common.{◌≡◌, ◌≢◌, ℕ, zero, suc, ◌+◌, ◌*◌, ◌%◌, ◌^◌, ◌≤◌, ◌<◌, Bool, true, false, not, ◌&&◌, ◌||◌, ltb, leb, eqb, List, [], ◌∷◌, ◌++◌, length, length-append, take, drop, map, filter, Option, Some, None, Result, Ok, Err, refl, sym, ap, subst, ◌∙◌, arith, inl, inr, ◌⊎◌}
-use Rattle.std.specs.Prelude.{IsTrue, min}
-use Rattle.std.specs.List.{AllByRecursion, list_any, find, fold, sum_by}
+use Rattle.std.proofs.Common.{◌≡◌, ◌≢◌, ℕ, suc, ◌+◌, ◌*◌, ◌^◌, ◌≤◌, ◌<◌, Bool, true, false, not, ◌&&◌, ◌||◌, leb, eqb, List, [], ◌∷◌, ◌++◌, length, length-append, take, drop, Option, Some, None, refl, sym, ap, subst, ◌∙◌, arith, inl, inr, ◌⊎◌}
+use Rattle.std.specs.Prelude.{min}
+use Rattle.std.specs.List.{AllByRecursion, fold}
 use Rattle.std.specs.List.Sorted.{IsPermutation, IsNonDecreasingBy}
 use Rattle.std.specs.Str.{bytes_eq}
-use Rattle.std.proofs.lemmas.Bool.{cases_Bool, or_cases, and_parts, ltb-false, ltb-true, le-ltb, lt-ltb, eqb-true, eq-eqb}
+use Rattle.std.proofs.lemmas.Bool.{cases_Bool, or_cases, and_parts, ltb-false, le-ltb, eqb-true, eq-eqb}
 use Rattle.std.proofs.lemmas.Slice.Eq.{bytes_eq-Decides}
 use Rattle.std.proofs.lemmas.List.{length-take-le, length-drop}
 use Rattle.std.proofs.lemmas.List.Sums.{sum_by-cons}
 use Rattle.std.proofs.lemmas.List.Sorted.{IsPermutation-sym, sum_by-IsPermutation}
-use Rattle.hf_base.specs.Number.{IsBytes, num}
-use Rattle.hf_base.specs.NumberLaws.{length-num}
+use Rattle.hf_base.specs.Number.{num}
 use Rattle.hf_base.specs.declared.four.FourCc.{FourCc}
 use Rattle.hf_base.specs.declared.limits.TheConstants as limits
 use Rattle.hf_base.specs.declared.kinds.TheConstants.{MIF1, MIME, URI, GRID, IOVL, IDEN}
@@ -21,7 +20,7 @@ use Rattle.hf_box.specs.Walk.{is_kind}
 use Rattle.hf_box.specs.Written.{id_width}
 use Rattle.hf_box.proofs.SameKinds.{same_kind, is_same_kind}
 use Rattle.hf_box.proofs.Spelled.{length_spelling}
-use Rattle.hf_head.specs.Ftyp.{Brands, IsFtyp}
+use Rattle.hf_head.specs.Ftyp.{Brands}
 use Rattle.hf_store.specs.Lists.{IsIn, RisesFrom}
 use Rattle.hf_store.specs.Store.{Item, ItemStore, ids_of}
 use Rattle.hf_store.specs.Layout.{is_wide, with_bytes, has_bytes, meta_front}
@@ -31,11 +30,11 @@ use Rattle.hf_store.proofs.BoxLengths.{box_len-le}
 use Rattle.hf_store.proofs.Lengths.{meta_body_len, meta_len-is}
 use Rattle.hf_store.proofs.PlainLengths.{front_len, length-meta_front, no_table}
 use Rattle.hf_store.proofs.Removals.{ends_plain, body_sum-cons}
-use Rattle.hf_app.specs.Entries.{AreTexts, are_distinct}
+use Rattle.hf_app.specs.Entries.{AreTexts}
 use Rattle.hf_app.specs.Iinf.{Info, is_plain_kind, IsInfe, IsIinf}
 use Rattle.hf_app.specs.Iloc.{Loc}
 use Rattle.hf_app.specs.TopLevel.{has_brand, has_mif1}
-use Rattle.hf_app.specs.Denotes.{loc_of, AreBytesOf, plain_item, IsItemOf, Denotes, DenotesWithin, Read, has_info, is_out, size_at, lesser, least_with, least_out, size_of}
+use Rattle.hf_app.specs.Denotes.{loc_of, AreBytesOf, plain_item, IsItemOf, Denotes, DenotesWithin, Read, has_info, is_out, size_at, least_with, least_out, size_of}
 use Rattle.hf_app.specs.Items.{bytes_at, item_at, items_at, store_at}
 use Rattle.hf_app.proofs.EntryLemmas.{not_true}
 use Rattle.hf_app.proofs.IinfLemmas.{ids}

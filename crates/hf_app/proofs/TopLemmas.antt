@@ -1,12 +1,9 @@
 -- The first fault of boxes, and what boxes without a fault are.
-use Rattle.std.proofs.Common.{◌≡◌, ℕ, zero, suc, ◌+◌, ◌≤◌, ◌<◌, Bool, true, false, not, ◌&&◌, ◌||◌, cond, List, [], ◌∷◌, ◌++◌, length, length-append, take, filter, Result, Ok, Err, Option, Some, None, refl, sym, ap, subst, ◌∙◌, append_assoc, arith, inl, inr, ◌⊎◌}
-use Rattle.std.specs.List.{list_any, find}
+use Rattle.std.proofs.Common.{◌≡◌, ◌≤◌, ◌<◌, Bool, true, false, ◌&&◌, ◌||◌, List, [], ◌∷◌, ◌++◌, length, length-append, Result, Ok, Option, Some, None, refl, sym, ap, ◌∙◌, append_assoc, arith, inl, inr}
 use Rattle.std.specs.Option.{option_to_list}
-use Rattle.std.proofs.lemmas.Bool.{cases_Bool, or_cases, or_parts, and_parts}
-use Rattle.std.proofs.lemmas.List.{append-nil}
+use Rattle.std.proofs.lemmas.Bool.{cases_Bool}
 use Rattle.std.proofs.lemmas.List.Folds.{list_any-append}
-use Rattle.hf_base.specs.Reading.{◌>>=◌}
-use Rattle.hf_base.specs.ReadingLaws.{bind_ok, bind_err}
+use Rattle.hf_base.specs.ReadingLaws.{bind_ok}
 use Rattle.hf_base.specs.declared.four.FourCc.{FourCc}
 use Rattle.hf_base.specs.declared.fault.ReadRefusal.{ReadRefusal}
 use Rattle.hf_base.specs.declared.fault.ReadRefusal.TheVariants.{Double}
@@ -14,7 +11,6 @@ use Rattle.hf_box.specs.Boxes.{BoxAt}
 use Rattle.hf_box.specs.Walk.{is_kind}
 use Rattle.hf_box.proofs.SameKinds.{same_kind, is_same_kind, other_kind}
 use Rattle.hf_store.specs.Lists.{IsIn}
-use Rattle.hf_app.specs.Entries.{refuse_if}
 use Rattle.hf_app.specs.TopLevel.{of_kind, has_kind, first_of, is_among, found, first_fault, double_fault}
 use Rattle.hf_app.proofs.EntryLemmas.{refused_not}
 

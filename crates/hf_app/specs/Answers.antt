@@ -3,9 +3,9 @@ use Rattle.std.specs.Prelude.{◌≡◌, ◌⊎◌, ℕ, List, Option, Some, Non
 use Rattle.hf_desk.specs.Outside.{Outside, Files, file_of}
 use Rattle.hf_desk.specs.Calls.{IfTold, Rose, Said, SaidFront, LacksFile}
 use Rattle.hf_desk.specs.Making.{IsMade, IsUnmade, IsMadeInPart}
-use Rattle.hf_app.specs.declared.outcome.Outcome.{Outcome}
-use Rattle.hf_app.specs.declared.outcome.Outcome.TheVariants.{Done, Usage, Unfit, Refused, TooLong, ReadFault, WriteFault, NoMemory}
-use Rattle.hf_app.specs.Words.{Command}
+use Rattle.hf_text.specs.declared.outcome.Outcome.{Outcome}
+use Rattle.hf_text.specs.declared.outcome.Outcome.TheVariants.{Done, ReadFault, WriteFault, NoMemory}
+use Rattle.hf_text.specs.Words.{Command}
 use Rattle.hf_app.specs.Due.{Due, IsDue, IsDueOf, IsDefined, input_of, out_of}
 
 -- the file that is due was made, or nothing was

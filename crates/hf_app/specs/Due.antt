@@ -1,5 +1,5 @@
 -- What an undisturbed run answers, makes and says.
-use Rattle.std.specs.Prelude.{◌≡◌, ◌⊎◌, ◌<◌, ◌≤◌, ℕ, List, [], length, Option, Some, None, IsSome, Result, Ok, Err, if◌then◌else◌, nat_lt}
+use Rattle.std.specs.Prelude.{◌≡◌, ◌⊎◌, ◌<◌, ◌≤◌, ℕ, List, [], length, Option, Some, None, IsSome, Result, Ok, Err}
 use Rattle.hf_base.specs.declared.fault.ReadRefusal.{ReadRefusal}
 use Rattle.hf_base.specs.declared.limits.TheConstants.{FILE}
 use Rattle.hf_box.specs.declared.view.BoxRow.{BoxRow}
@@ -7,12 +7,12 @@ use Rattle.hf_box.specs.Walk.{walk_at}
 use Rattle.hf_desk.specs.Outside.{Files, file_of}
 use Rattle.hf_store.specs.Changes.{Edit}
 use Rattle.hf_store.specs.declared.reason.Reason.{Reason}
-use Rattle.hf_app.specs.declared.outcome.Outcome.{Outcome}
-use Rattle.hf_app.specs.declared.outcome.Outcome.TheVariants.{Done, Usage, Unfit, Refused, TooLong}
+use Rattle.hf_text.specs.declared.outcome.Outcome.{Outcome}
+use Rattle.hf_text.specs.declared.outcome.Outcome.TheVariants.{Done, Usage, Unfit, Refused, TooLong}
 use Rattle.hf_app.specs.Denotes.{fault_of}
 use Rattle.hf_app.specs.Edits.{IsEdited, IsRefused}
-use Rattle.hf_app.specs.Texts.{rows_text}
-use Rattle.hf_app.specs.Words.{Command, Boxes, EditFile}
+use Rattle.hf_text.specs.Texts.{rows_text}
+use Rattle.hf_text.specs.Words.{Command, Boxes, EditFile}
 
 pub record Due : Type 0 where
   pub outcome : Outcome

@@ -1,7 +1,6 @@
 -- Edits in order, and what they make of a file.
 use Rattle.std.specs.Prelude.{◌≡◌, ◌+◌, ℕ, List, [], ◌∷◌, Option, Some, None, Result, Ok, Err}
 use Rattle.std.specs.Global.{Vec}
-use Rattle.hf_base.specs.declared.fault.ReadRefusal.{ReadRefusal}
 use Rattle.hf_store.specs.Store.{ItemStore}
 use Rattle.hf_store.specs.Changes.{Edit, step, why}
 use Rattle.hf_store.specs.declared.reason.Reason.{Reason}

@@ -1,7 +1,6 @@
 -- `iinf` and its `infe`: ItemInfoBox and ItemInfoEntry of ISO/IEC 14496-12. Which of them are plain, and so are read,
 -- is this project's own rule.
-use Rattle.std.specs.Prelude.{◌≡◌, ◌<◌, ◌^◌, ◌%◌, ℕ, Bool, not, ◌&&◌, ◌||◌, List, [], ◌++◌, length, map, ◌==◌, Result, Ok, Err, IsTrue, nat_lt}
-use Rattle.std.specs.List.{list_any}
+use Rattle.std.specs.Prelude.{◌≡◌, ◌<◌, ◌^◌, ◌%◌, ℕ, Bool, not, ◌&&◌, List, ◌++◌, length, map, ◌==◌, Result, Ok, IsTrue, nat_lt}
 use Rattle.hf_base.specs.declared.four.FourCc.{FourCc}
 use Rattle.hf_base.specs.declared.fault.ReadRefusal.{ReadRefusal}
 use Rattle.hf_base.specs.declared.fault.ReadRefusal.TheVariants.{Later}

@@ -1,5 +1,5 @@
 -- `iloc`: ItemLocationBox of ISO/IEC 14496-12. Which of them are plain, and so are read, is this project's own rule.
-use Rattle.std.specs.Prelude.{◌≡◌, ◌<◌, ◌^◌, ℕ, Bool, not, ◌&&◌, List, ◌++◌, length, map, ◌==◌, nat_lt, Result, Ok, Err, IsTrue}
+use Rattle.std.specs.Prelude.{◌≡◌, ◌<◌, ◌^◌, ℕ, Bool, not, ◌&&◌, List, ◌++◌, length, map, ◌==◌, nat_lt, Result, Ok, IsTrue}
 use Rattle.hf_base.specs.declared.fault.ReadRefusal.{ReadRefusal}
 use Rattle.hf_base.specs.declared.fault.ReadRefusal.TheVariants.{Later}
 use Rattle.hf_base.specs.declared.kinds.TheConstants.{ILOC}

@@ -1,5 +1,4 @@
 pub mod Answers
-pub mod Commands
 pub mod Denotes
 pub mod Due
 pub mod Edits
@@ -8,12 +7,8 @@ pub mod FieldViews
 pub mod Iinf
 pub mod Iloc
 pub mod Items
-pub mod Lines
-pub mod Parts
 pub mod Places
 pub mod PlainFiles
 pub mod Stops
-pub mod Texts
 pub mod TopLevel
 pub mod TopViews
-pub mod Words

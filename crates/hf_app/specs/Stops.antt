@@ -4,8 +4,8 @@ use Rattle.hf_desk.specs.declared.read.ReadStop.{ReadStop}
 use Rattle.hf_desk.specs.declared.read.ReadStop.TheVariants as reads
 use Rattle.hf_app.specs.declared.editing.Stop.{Stop}
 use Rattle.hf_app.specs.declared.editing.Stop.TheVariants as stops
-use Rattle.hf_app.specs.declared.outcome.Outcome.{Outcome}
-use Rattle.hf_app.specs.declared.outcome.Outcome.TheVariants.{Unfit, Refused, TooLong, ReadFault, NoMemory}
+use Rattle.hf_text.specs.declared.outcome.Outcome.{Outcome}
+use Rattle.hf_text.specs.declared.outcome.Outcome.TheVariants.{Unfit, Refused, TooLong, ReadFault, NoMemory}
 
 abbrev pub outcome_of_read : ℕ → ReadStop → Outcome
 outcome_of_read source reads.TooLong = TooLong source

@@ -1,18 +1,16 @@
 //! `boxes IN`: the boxes of a file are said.
 
 ghost use Rattle.std.specs.Prelude.{◌≡◌, ℕ, true, false};
-ghost use Rattle.hf_desk.specs.Outside.{Outside};
-ghost use Rattle.hf_app.specs.Words.{Boxes};
+ghost use Rattle.hf_text.specs.Words.{Boxes};
 ghost use Rattle.hf_app.specs.Due.{IsDueOf};
 ghost use Rattle.hf_app.specs.Answers.{Answers, Ends, ForFile, IsQuiet, HasCause, IsDueOrNoMemory, Stays};
 
 use crate::input::read_input;
-use crate::outcome::Outcome;
-use crate::rows::say_rows;
 use crate::stopping::stopped;
 use hf_base::OpenFault;
 use hf_box::walk;
 use hf_desk::Desk;
+use hf_text::{Outcome, say_rows};
 use std::alloc::Global;
 
 /// Says the rows of the file with this name.

@@ -2,19 +2,17 @@
 
 ghost use Rattle.std.specs.Prelude.{◌≡◌, ◌≤◌, ℕ, true, false, length, map};
 ghost use Rattle.hf_base.specs.declared.limits.TheConstants.{EDITS};
-ghost use Rattle.hf_desk.specs.Outside.{Outside};
 ghost use Rattle.hf_desk.specs.Calls.{LacksFile};
-ghost use Rattle.hf_app.specs.Words.{EditFile};
-ghost use Rattle.hf_app.specs.Commands.{edit_of};
+ghost use Rattle.hf_text.specs.Words.{EditFile};
+ghost use Rattle.hf_text.specs.Commands.{edit_of};
 ghost use Rattle.hf_app.specs.Due.{IsDueOf};
 ghost use Rattle.hf_app.specs.Answers.{Answers, Ends, ForFile, IsQuiet, HasCause, IsDueOrNoMemory, Stays};
 
 use crate::editing::edited;
 use crate::input::read_input;
-use crate::outcome::Outcome;
 use crate::stopping::{refused, stopped};
-use crate::words::EditWord;
 use hf_desk::{Desk, make_file};
+use hf_text::{EditWord, Outcome};
 use std::alloc::Global;
 
 /// Makes the file `out`: the canonical file of the store that the input denotes, after these edits

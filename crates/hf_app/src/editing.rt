@@ -1,17 +1,17 @@
 //! A file after edits: the canonical file of its store.
 
-ghost use Rattle.std.specs.Prelude.{◌≡◌, ◌≤◌, ◌+◌, Ok, Err, Some, None, length, map, drop, OnOk, IfErr, OnErr, MatchResult};
+ghost use Rattle.std.specs.Prelude.{◌≡◌, ◌≤◌, ◌+◌, Ok, Err, Some, None, length, map, OnOk, IfErr};
 ghost use Rattle.hf_base.specs.declared.limits.TheConstants.{FILE, EDITS as MOST};
 ghost use Rattle.hf_store.specs.Changes.{step, why};
-ghost use Rattle.hf_app.specs.Commands.{edit_of};
+ghost use Rattle.hf_text.specs.Commands.{edit_of};
 ghost use Rattle.hf_app.specs.Edits.{Edits, Steps, stepped};
-ghost use Rattle.hf_app.specs.declared.editing.Stop.TheVariants.{NoMemory as no_memory, Refused as refused};
+ghost use Rattle.hf_app.specs.declared.editing.Stop.TheVariants.{NoMemory as no_memory};
 
 use crate::canonical::canonical_file;
 use crate::opening::open_store;
-use crate::words::EditWord;
 use hf_base::{NoMemory, OpenFault, ReadRefusal};
 use hf_store::{Reason, Store, remove_item};
+use hf_text::EditWord;
 use std::alloc::Global;
 
 /// Why no bytes are made.

@@ -1,8 +1,8 @@
 //! `iinf`: ItemInfoBox of ISO/IEC 14496-12, as far as it is plain.
 
-ghost use Rattle.std.specs.Prelude.{◌≡◌, ℕ, List, map, IfOk, IsOkAnd, length};
-ghost use Rattle.hf_base.specs.Reading.{Reads, Gives, MatchOpen, times, with_front};
-ghost use Rattle.hf_app.specs.Iinf.{Info as Stated, info_of, infos_of, is_plain_kind as is_plain, is_plain_infe, infe_at, infos_at, iinf_at, IsIinf};
+ghost use Rattle.std.specs.Prelude.{◌≡◌, List, map, IfOk};
+ghost use Rattle.hf_base.specs.Reading.{Reads, Gives, MatchOpen, times};
+ghost use Rattle.hf_app.specs.Iinf.{Info as Stated, info_of, infos_of, is_plain_kind as is_plain, infe_at, infos_at, iinf_at, IsIinf};
 
 use crate::distinct::are_distinct;
 use hf_base::kinds::{GRID, IDEN, IINF, INFE, IOVL, MIME, URI};

@@ -1,6 +1,6 @@
 //! `iloc`: ItemLocationBox of ISO/IEC 14496-12, as far as it is plain.
 
-ghost use Rattle.std.specs.Prelude.{◌≡◌, ℕ, List, map, IfOk, IsOkAnd, length};
+ghost use Rattle.std.specs.Prelude.{◌≡◌, List, map, IfOk, length};
 ghost use Rattle.hf_base.specs.Reading.{Reads, Gives, MatchOpen, times};
 ghost use Rattle.hf_app.specs.Iloc.{Loc as Stated, loc_view, locs_of, entry_at, count_at, locs_at, iloc_at, IsIloc};
 

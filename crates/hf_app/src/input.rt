@@ -1,8 +1,7 @@
 //! The input of a command.
 
-ghost use Rattle.std.specs.Prelude.{◌≡◌, ◌<◌, ◌≤◌, List, ℕ, true, length, IfOk, IsErrOf};
+ghost use Rattle.std.specs.Prelude.{◌≡◌, ◌<◌, ◌≤◌, true, length, IfOk, IsErrOf};
 ghost use Rattle.hf_base.specs.declared.limits.TheConstants as limits;
-ghost use Rattle.hf_desk.specs.Outside.{Outside};
 ghost use Rattle.hf_desk.specs.Calls.{Rose, ReadsOnly, IfTold, HasFile};
 
 use hf_base::limits::FILE;

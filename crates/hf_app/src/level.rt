@@ -4,7 +4,7 @@ ghost use Rattle.std.specs.Prelude.{◌≡◌, ◌<◌, ◌^◌, ◌++◌, [], �
 ghost use Rattle.std.specs.Option.{option_map};
 ghost use Rattle.hf_base.specs.Reading.{Reads, Gives};
 ghost use Rattle.hf_box.specs.Boxes.{BoxAt, box_of, boxes_of, end_of};
-ghost use Rattle.hf_app.specs.TopLevel.{is_among as is_one_of, first_of as first_box, double_fault, Knows, movie_fault, top_box_fault, top_once, banned_fault, child_fault, once, first_fault, is_later as is_later_box, later_child, empty_iprp_body};
+ghost use Rattle.hf_app.specs.TopLevel.{is_among as is_one_of, first_of as first_box, double_fault, Knows, movie_fault, top_box_fault, top_once, banned_fault, child_fault, once, first_fault, is_later as is_later_box, later_child};
 
 use hf_base::kinds::{
     BXML, FTYP, GRPL, HDLR, IDAT, IINF, ILOC, IPRO, IPRP, IREF, META, MOOF, MOOV, PITM, XML,

@@ -13,25 +13,16 @@ mod input;
 mod items;
 pub mod laws;
 mod level;
-mod line;
 mod opening;
-mod outcome;
-mod parts;
 mod places;
-mod rows;
 mod stopping;
-mod text;
 mod top;
 mod top_level;
-mod words;
 
 pub use editing::{Stop, edited};
-pub use line::line_of;
+pub use hf_text::{Command, EditWord, Outcome, WordsFault, line_of, read_words, say_rows, status};
 pub use opening::open_store;
-pub use outcome::{Outcome, status};
-pub use rows::say_rows;
 pub use top::run;
-pub use words::{Command, EditWord, WordsFault, read_words};
 
 #[cfg(test)]
 mod tests;

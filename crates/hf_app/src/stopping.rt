@@ -4,8 +4,8 @@ ghost use Rattle.std.specs.Prelude.{◌≡◌};
 ghost use Rattle.hf_app.specs.Stops.{outcome_of_read, outcome_of_stop};
 
 use crate::editing::Stop;
-use crate::outcome::Outcome;
 use hf_desk::ReadStop;
+use hf_text::Outcome;
 
 /// The answer where the file of this source was not read whole.
 pub fn stopped(source: u32, why: ReadStop) -> Outcome

@@ -1,16 +1,14 @@
 //! The top call.
 
-ghost use Rattle.std.specs.Prelude.{◌≡◌, ◌↔◌, ℕ, List, true, false, Ok, Err, map, string_bytes};
-ghost use Rattle.hf_desk.specs.Outside.{Outside};
+ghost use Rattle.std.specs.Prelude.{◌≡◌, ◌↔◌, ℕ, true, false, Ok, Err, map, string_bytes};
 ghost use Rattle.hf_desk.specs.Calls.{Rose};
-ghost use Rattle.hf_app.specs.Words.{Command as Words, command_read};
+ghost use Rattle.hf_text.specs.Words.{Command as Words, command_read};
 ghost use Rattle.hf_app.specs.Answers.{Answers, Ends, ForDue, IsQuiet, HasCause, IsDueOrNoMemory, OutIsFree, Stays};
 
 use crate::boxes::say_boxes;
 use crate::edit::edit_file;
-use crate::outcome::Outcome;
-use crate::words::{Command, WordsFault, read_words};
 use hf_desk::Desk;
+use hf_text::{Command, Outcome, WordsFault, read_words};
 use std::alloc::Global;
 
 /// Does all that the program does: `words` are those of the command line without the program's

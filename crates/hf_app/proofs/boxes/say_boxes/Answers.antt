@@ -1,11 +1,6 @@
-use Rattle.std.proofs.Common.{◌≡◌, ◌≤◌, List, ℕ, length, ap, sym, ◌∙◌, subst, refl, inl, inr, Ok, Err, rules}
-use Rattle.hf_base.specs.declared.limits.TheConstants.{FILE}
-use Rattle.hf_desk.specs.Calls.{IfTold, HasFile}
-use Rattle.hf_box.specs.Walk.{walk_at}
-use Rattle.hf_app.specs.Answers.{Answers, ForFile, IsDueOrNoMemory}
-use Rattle.hf_app.specs.Due.{IsDueOf}
-use Rattle.hf_app.specs.declared.outcome.Outcome.TheVariants.{Done, Unfit, WriteFault}
-use Rattle.hf_app.specs.Words.{Boxes}
+use Rattle.std.proofs.Common.{inr, rules}
+use Rattle.hf_text.specs.declared.outcome.Outcome.TheVariants.{Done, Unfit, WriteFault}
+use Rattle.hf_text.specs.Words.{Boxes}
 use Rattle.hf_app.proofs.Dues.{ends_as, ends_stopped, stopped_due, stopped_steady, unfit_rows, done_rows, broken_rows, steady_rows}
 use Rattle.hf_app.proofs.boxes.say_boxes.Goals as goal
 

@@ -1,8 +1,8 @@
-use Rattle.std.proofs.Common.{◌≡◌, ◌≤◌, List, [], ℕ, length, map, ap, sym, ◌∙◌, subst, refl, inl, inr, Ok, Err, rules}
-use Rattle.hf_app.specs.Commands.{edit_of}
-use Rattle.hf_app.specs.declared.outcome.Outcome.TheVariants.{Done, WriteFault}
+use Rattle.std.proofs.Common.{[], map, refl, rules}
+use Rattle.hf_text.specs.Commands.{edit_of}
+use Rattle.hf_text.specs.declared.outcome.Outcome.TheVariants.{Done, WriteFault}
 use Rattle.hf_app.specs.Stops.{outcome_of_stop}
-use Rattle.hf_app.specs.Words.{EditFile}
+use Rattle.hf_text.specs.Words.{EditFile}
 use Rattle.hf_app.proofs.Dues.{ends_as, ends_stopped, stopped_due, stopped_steady, refused_due, refused_steady, done_edits, broken_edits, steady_edits}
 use Rattle.hf_app.proofs.edit.edit_file.Goals as goal
 

@@ -1,6 +1,6 @@
-use Rattle.std.proofs.Common.{◌≡◌, ◌+◌, [], map, drop, sym, ap, ◌∙◌, arith, Err}
+use Rattle.std.proofs.Common.{◌≡◌, ◌+◌, [], map, drop, sym, ap, ◌∙◌, arith}
 use Rattle.std.proofs.lemmas.List.{drop_all}
-use Rattle.hf_app.specs.Commands.{edit_of}
+use Rattle.hf_text.specs.Commands.{edit_of}
 use Rattle.hf_app.specs.Edits.{stepped}
 use Rattle.hf_app.proofs.EditChain.{stepped-at, stepped-more, stepped-stops, stepped-none}
 use Rattle.hf_app.proofs.editing.apply_all.Goals as goal

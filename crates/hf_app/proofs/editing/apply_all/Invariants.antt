@@ -1,5 +1,5 @@
 use Rattle.std.proofs.Common.{◌≡◌, ◌+◌, map, drop}
-use Rattle.hf_app.specs.Commands.{edit_of}
+use Rattle.hf_text.specs.Commands.{edit_of}
 use Rattle.hf_app.specs.Edits.{stepped}
 use Rattle.hf_app.proofs.editing.apply_all.Given as goal
 

@@ -1,4 +1,4 @@
-use Rattle.std.proofs.Common.{◌≡◌, sym}
+use Rattle.std.proofs.Common.{sym}
 use Rattle.hf_app.proofs.PlaceLemmas.{info_at}
 use Rattle.hf_app.proofs.fields.has_info.Goals as goal
 

@@ -1,4 +1,4 @@
-use Rattle.std.proofs.Common.{◌≡◌, Bool, true, false, [], List, ℕ, length, arith, sym, ap, ◌∙◌}
+use Rattle.std.proofs.Common.{◌≡◌, true, false, [], arith}
 use Rattle.std.proofs.lemmas.Grind.{common_steps}
 use Rattle.hf_app.specs.Entries.{are_distinct}
 use Rattle.hf_app.specs.Iloc.{locs_of}

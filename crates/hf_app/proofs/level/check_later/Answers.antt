@@ -1,4 +1,4 @@
-use Rattle.std.proofs.Common.{◌≡◌, arith, sym, ◌∙◌}
+use Rattle.std.proofs.Common.{arith, sym, ◌∙◌}
 use Rattle.hf_app.specs.TopLevel.{later_child}
 use Rattle.hf_app.proofs.LoopLemmas.{fault_end, later_on, later_here}
 use Rattle.hf_app.proofs.level.check_later.Goals as goal

@@ -1,8 +1,8 @@
-use Rattle.std.proofs.Common.{◌≡◌, ◌+◌, ◌∙◌, sym, ap, subst, List, take, arith}
+use Rattle.std.proofs.Common.{sym, subst, List, take, arith}
 use Rattle.std.proofs.lemmas.List.{map_more}
 use Rattle.std.proofs.lemmas.Result.{err_from_is_err_and}
 use Rattle.hf_box.specs.Boxes.{BoxAt, box_of, boxes_of}
-use Rattle.hf_app.specs.TopLevel.{Knows, top_once, first_fault, top_box_fault}
+use Rattle.hf_app.specs.TopLevel.{Knows, top_once, top_box_fault}
 use Rattle.hf_app.proofs.LoopLemmas.{fault_on, fails_here, fault_end}
 use Rattle.hf_app.proofs.level.check_top.Goals as goal
 

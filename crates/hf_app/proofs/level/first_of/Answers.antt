@@ -1,4 +1,4 @@
-use Rattle.std.proofs.Common.{◌≡◌, arith, sym, ap, ◌∙◌, get_or}
+use Rattle.std.proofs.Common.{sym, ◌∙◌}
 use Rattle.hf_app.proofs.LoopLemmas.{first_here, first_later}
 use Rattle.hf_app.proofs.level.first_of.Goals as goal
 

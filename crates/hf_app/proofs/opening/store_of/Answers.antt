@@ -1,4 +1,4 @@
-use Rattle.std.proofs.Common.{◌≡◌, refl, sym, ap, subst, ◌∙◌, arith, List, length, All}
+use Rattle.std.proofs.Common.{refl, sym, ap, subst, ◌∙◌, arith, List, length, All}
 use Rattle.hf_head.specs.Ftyp.{brands_of}
 use Rattle.hf_store.specs.Store.{ItemStore}
 use Rattle.hf_app.specs.declared.iinf.Info.{Info}

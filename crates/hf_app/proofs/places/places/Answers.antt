@@ -1,4 +1,4 @@
-use Rattle.std.proofs.Common.{◌≡◌, sym, subst, List, take}
+use Rattle.std.proofs.Common.{sym, subst, List, take}
 use Rattle.std.proofs.lemmas.List.{map_more}
 use Rattle.hf_app.specs.Iloc.{Loc, loc_view, locs_of}
 use Rattle.hf_app.specs.Places.{Finds}

@@ -1,4 +1,4 @@
-use Rattle.std.proofs.Common.{◌≡◌, true, false, sym, ◌∙◌, arith}
+use Rattle.std.proofs.Common.{sym, ◌∙◌, arith}
 use Rattle.std.proofs.lemmas.Grind.{common_steps}
 use Rattle.hf_app.proofs.PlaceLemmas.{finds_still, finds_more, not_some}
 use Rattle.hf_app.proofs.places.put.Goals as goal

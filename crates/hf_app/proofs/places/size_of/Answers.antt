@@ -1,4 +1,4 @@
-use Rattle.std.proofs.Common.{◌≡◌, ◌∙◌, ap, sym, arith, List, take}
+use Rattle.std.proofs.Common.{◌∙◌, ap, arith, List}
 use Rattle.std.proofs.lemmas.List.{take_all}
 use Rattle.hf_app.specs.Iinf.{infos_of}
 use Rattle.hf_app.specs.Denotes.{size_at, size_of}

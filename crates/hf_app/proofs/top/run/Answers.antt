@@ -1,15 +1,14 @@
-use Rattle.std.proofs.Common.{◌≡◌, ◌<◌, ◌≤◌, List, [], ℕ, length, map, get_or, ap, sym, subst, inr, ◌∙◌, Ok, Err, Result, arith, rules}
+use Rattle.std.proofs.Common.{◌≡◌, ◌<◌, List, [], ℕ, length, map, get_or, ap, sym, subst, inr, ◌∙◌, Ok, Result, arith}
 use Rattle.std.specs.Prelude.{String, string_bytes}
 use Rattle.std.specs.Global.{Global}
 use Rattle.std.proofs.lemmas.List.{get_or-map, length-map}
 use Rattle.hf_desk.specs.Outside.{Outside}
 use Rattle.hf_store.specs.Changes.{Edit}
-use Rattle.hf_app.specs.Commands.{edit_of}
-use Rattle.hf_app.specs.Words.{Command, Boxes, EditFile, command_read}
-use Rattle.hf_app.specs.declared.outcome.Outcome.{Outcome}
-use Rattle.hf_app.specs.declared.words.EditWord.{EditWord}
+use Rattle.hf_text.specs.Commands.{edit_of}
+use Rattle.hf_text.specs.Words.{Command, Boxes, EditFile, command_read}
+use Rattle.hf_text.specs.declared.outcome.Outcome.{Outcome}
 use Rattle.hf_app.specs.Answers.{Ends, OutIsFree}
-use Rattle.hf_app.proofs.WordLaws.{command-reads}
+use Rattle.hf_text.proofs.WordLaws.{command-reads}
 use Rattle.hf_app.proofs.Dues.{due_of_words, steady_of_words, complete_of_words, usage_due}
 use Rattle.hf_app.proofs.top.run.Goals as goal
 

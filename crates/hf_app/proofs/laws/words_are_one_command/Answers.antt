@@ -1,5 +1,0 @@
-use Rattle.hf_app.proofs.WordLaws.{reads-command, command-reads}
-use Rattle.hf_app.proofs.laws.words_are_one_command.Goals as goal
-
-pub returns : goal.returns
-returns c = λ words command. (reads-command words command, command-reads words command)

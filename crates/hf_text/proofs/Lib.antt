@@ -1,0 +1,4 @@
+pub mod EditLaws
+pub mod EditSteps
+pub mod Fronts
+pub mod WordLaws

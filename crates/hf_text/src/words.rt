@@ -1,0 +1,171 @@
+//! The words of the command line, read from left to right.
+
+ghost use Rattle.std.specs.Prelude.{◌≡◌, ◌+◌, ◌<◌, ◌≤◌, length, drop, map, string_bytes, IfOk};
+ghost use Rattle.hf_base.specs.declared.limits.TheConstants.{EDITS as MOST};
+ghost use Rattle.hf_text.specs.Words.{boxes_read, command_read, edit_file_read, edit_read, edits_read, id_of as id_of_word, words_of_edit};
+ghost use Rattle.hf_text.specs.declared.words.WordsFault.TheVariants.{NoMemory as no_memory};
+ghost use Rattle.hf_text.specs.Commands.{AreRead, IsEditRead, IsPushed, IsRead, NamesWords, edit_of};
+
+use hf_base::NoMemory;
+use hf_base::limits::EDITS;
+use itoa::Buffer;
+use std::alloc::Global;
+
+/// A change of a file's items.
+#[derive(Clone, Copy, Debug, PartialEq, Eq)]
+pub enum EditWord {
+    /// Takes an item out.
+    Remove { id: u32 },
+}
+
+/// A command. Each file is named by the place of its word, from 0.
+#[derive(Debug, Drop)]
+pub enum Command {
+    /// Says the boxes of the file `input`.
+    Boxes {
+        input: usize,
+    },
+    /// Makes the file `out`: the file `input` after these edits, in order.
+    Edit {
+        input: usize,
+        out: usize,
+        edits: Vec<EditWord>,
+    },
+}
+
+/// Why words are not read.
+#[derive(Clone, Copy, Debug, PartialEq, Eq)]
+pub enum WordsFault {
+    /// The words are no command: `at` is the place, from 0, of the first word that no command has
+    /// there after the words before it, or the number of words where they end too early.
+    Usage { at: usize },
+    /// Memory was refused.
+    NoMemory,
+}
+
+impl From<NoMemory> for WordsFault {
+    ghost from_gives = { λ _ fault. fault ≡ no_memory };
+
+    fn from(_e: NoMemory) -> WordsFault {
+        WordsFault::NoMemory
+    }
+}
+
+impl EditWord {
+    /// How many words an edit has.
+    fn words(&self) -> usize
+        ensures { result ≡ length (words_of_edit (edit_of self.now)) }
+    {
+        match self {
+            EditWord::Remove { .. } => 2,
+        }
+    }
+}
+
+/// The id that is written so: digits alone, without a leading zero unless the word is `0`.
+fn id_of(word: &str) -> Option<u32>
+    ensures { result ≡ id_of_word word.now }
+{
+    match word.parse::<u32>() {
+        Ok(id) if Buffer::new().format(id) == word => Some(id),
+        _ => None,
+    }
+}
+
+/// The edit that begins at this place, or the place of the first word that no edit has there.
+fn read_edit(words: &[String], at: usize) -> Result<EditWord, usize>
+    requires { at < length words.now }
+    ensures read { IsEditRead (edit_read at (drop at (map string_bytes words.now))) result }
+    ensures within { IfOk result (λ edit. at + length (words_of_edit (edit_of edit)) ≤ length words.now) }
+{
+    match &words[at..] {
+        [word, id, ..] if word.as_str() == "remove" => match id_of(id.as_str()) {
+            Some(id) => Ok(EditWord::Remove { id }),
+            None => Err(at + 1),
+        },
+        [word] if word.as_str() == "remove" => Err(at + 1),
+        _ => Err(at),
+    }
+}
+
+/// One more edit, unless memory was refused before.
+fn with_edit(
+    edits: Result<Vec<EditWord>, NoMemory>,
+    edit: EditWord,
+) -> Result<Vec<EditWord>, NoMemory>
+    ensures { IsPushed edits edit result }
+{
+    let mut edits = edits?;
+    edits.push(edit)?;
+    Ok(edits)
+}
+
+/// The edits behind the three words `edit IN OUT`. A refusal of memory is answered only once all
+/// words are read, so that words that are no command are told in every case.
+fn read_edits(alloc: Global, words: &[String]) -> Result<Vec<EditWord>, WordsFault>
+    requires { 3 ≤ length words.now }
+    ensures { AreRead (edits_read MOST 3 (drop 3 (map string_bytes words.now))) result }
+{
+    let mut edits = Ok(Vec::new(alloc));
+    let mut at = 3;
+    let mut count = 0;
+    while at < words.len() {
+        if count == EDITS {
+            return Err(WordsFault::Usage { at });
+        }
+        let edit = match read_edit(words, at) {
+            Ok(edit) => edit,
+            Err(at) => return Err(WordsFault::Usage { at }),
+        };
+        at += edit.words();
+        count += 1;
+        edits = with_edit(edits, edit);
+    }
+    Ok(edits?)
+}
+
+/// The command where the first word is `boxes`.
+fn read_boxes(words: &[String]) -> Result<Command, WordsFault>
+    requires { 1 ≤ length words.now }
+    ensures read { IsRead (map string_bytes words.now) (boxes_read (drop 1 (map string_bytes words.now))) result }
+    ensures names { IfOk result (λ command. NamesWords (map string_bytes words.now) command) }
+{
+    if words.len() == 2 {
+        Ok(Command::Boxes { input: 1 })
+    } else {
+        Err(WordsFault::Usage {
+            at: words.len().min(2),
+        })
+    }
+}
+
+/// The command where the first word is `edit`.
+fn read_edit_file(alloc: Global, words: &[String]) -> Result<Command, WordsFault>
+    requires { 1 ≤ length words.now }
+    ensures read { IsRead (map string_bytes words.now) (edit_file_read (drop 1 (map string_bytes words.now))) result }
+    ensures names { IfOk result (λ command. NamesWords (map string_bytes words.now) command) }
+{
+    if words.len() < 3 {
+        return Err(WordsFault::Usage { at: words.len() });
+    }
+    let edits = read_edits(alloc, words)?;
+    Ok(Command::Edit {
+        input: 1,
+        out: 2,
+        edits,
+    })
+}
+
+/// The command that the words are, without the program's name among them.
+pub fn read_words(alloc: Global, words: &[String]) -> Result<Command, WordsFault>
+    // The command, or the one place of usage; memory is refused only where a command reads.
+    ensures read { IsRead (map string_bytes words.now) (command_read (map string_bytes words.now)) result }
+    // A word stands at each place that the command names.
+    ensures names { IfOk result (λ command. NamesWords (map string_bytes words.now) command) }
+{
+    match words {
+        [word, ..] if word.as_str() == "boxes" => read_boxes(words),
+        [word, ..] if word.as_str() == "edit" => read_edit_file(alloc, words),
+        _ => Err(WordsFault::Usage { at: 0 }),
+    }
+}
