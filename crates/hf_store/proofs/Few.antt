@@ -1,7 +1,7 @@
 -- What is counted over a valid store is few.
 use Rattle.std.proofs.Common.{◌≡◌, ℕ, zero, suc, ◌+◌, ◌*◌, ◌^◌, ◌≤◌, Bool, true, false, cond, leb, List, [], ◌∷◌, length, refl, sym, ap, ◌∙◌, arith, subst}
 use Rattle.std.specs.Prelude.{◌==◌}
-use Rattle.std.specs.List.{AllByRecursion, sum_by}
+use Rattle.std.specs.List.{AllByRecursion, sum_by, flat_map}
 use Rattle.std.proofs.Math.Dec.{eqb-suc-zero}
 use Rattle.std.proofs.lemmas.List.Sums.{sum_by-cons}
 use Rattle.hf_base.specs.declared.limits.TheConstants as limits
@@ -12,7 +12,8 @@ use Rattle.hf_store.specs.Counts.{Counts, HasCounts, plus, targets_of, counts_of
 use Rattle.hf_store.specs.Layout.{own, is_wide, has_bytes, has_props}
 use Rattle.hf_store.specs.Sizes.{Inner, inner_of, short_props, short_inner, meta_size_by}
 use Rattle.hf_store.specs.Store.{RefList, Item, ItemStore}
-use Rattle.hf_store.specs.Table.{table_of}
+use Rattle.hf_store.specs.Table.{props_of, table_of}
+use Rattle.hf_table.specs.Table.{table, size_sum}
 use Rattle.hf_store.specs.Valid.{body_sum, meta_len, IsGoodRef, IsGoodItem, Valid}
 use Rattle.hf_store.proofs.BoxLengths.{le-box_len}
 use Rattle.hf_store.proofs.Capped.{capped-small}
@@ -203,3 +204,10 @@ plus-cancel a b c e = λ j. record {
   where
     cancel : (m n k : ℕ) → m + k ≡ n + k → m ≡ n
     cancel m n k e = omega (arith, e)
+
+-- the boxes of the distinct properties are within `meta`
+pub light_props : (s : ItemStore) → Valid s → size_sum (table (flat_map props_of s.items)) ≤ limits.META
+unfolding inner_of table_of
+light_props s valid =
+    let short = ap (λ (b : Inner). b.props) (valid_is_short s valid) in
+    omega (arith, short, (inner-below s).props, valid.meta)

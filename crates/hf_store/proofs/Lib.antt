@@ -30,4 +30,5 @@ pub mod Sizes
 pub mod Spots
 pub mod Tables
 pub mod Tallied
+pub mod Uses
 pub mod ValidStores
