@@ -33,4 +33,5 @@ pub mod Sizes
 pub mod Spots
 pub mod Tables
 pub mod Tallied
+pub mod Uses
 pub mod ValidStores
