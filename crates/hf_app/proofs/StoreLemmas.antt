@@ -29,7 +29,7 @@ use Rattle.hf_store.specs.Plain.{IsPlainItem, ArePlain, IsPlain}
 use Rattle.hf_store.proofs.BoxLengths.{box_len-le}
 use Rattle.hf_store.proofs.Lengths.{meta_body_len, meta_len-is}
 use Rattle.hf_store.proofs.PlainLengths.{front_len, length-meta_front, no_table}
-use Rattle.hf_store.proofs.Removals.{ends_plain, body_sum-cons}
+use Rattle.hf_store.proofs.Bodies.{body_sum-cons}
 use Rattle.hf_app.specs.Entries.{AreTexts}
 use Rattle.hf_app.specs.Iinf.{Info, is_plain_kind, IsInfe, IsIinf}
 use Rattle.hf_app.specs.Iloc.{Loc}

@@ -10,7 +10,7 @@ use Rattle.hf_store.specs.Layout.{own, is_wide, has_bytes, with_bytes, in_idat, 
 use Rattle.hf_store.specs.Valid.{body_sum, Valid}
 use Rattle.hf_store.specs.Plain.{IsPlainItem, ArePlain, IsPlain}
 use Rattle.hf_store.proofs.PlainLengths.{not_in_idat}
-use Rattle.hf_store.proofs.Removals.{body_sum-cons}
+use Rattle.hf_store.proofs.Bodies.{body_sum-cons}
 use Rattle.hf_store.proofs.Spots.{drop_here, holds_here, id_here, rises_at, some_is}
 use Rattle.hf_plan.specs.Plan.{start_of}
 use Rattle.hf_store.proofs.Finds.{some_has, none_has}
@@ -120,3 +120,6 @@ mapped_here f xs k x out after whole y e put same so_far =
 
 pub mapped_end : {A B : Type 0} (f : A → B) (xs : List A) (k : ℕ) (out whole : List B) → length xs ≤ k → out ++ map f (drop k xs) ≡ whole → out ≡ whole
 mapped_end f xs k out whole h so_far = sym (ap (λ ys. out ++ map f ys) (drop_all k xs h) ∙ append-nil out) ∙ so_far
+
+pub body_sum-here : (is : List Item) (k : ℕ) (i : Item) → slice_get is k ≡ Some i → body_sum (drop k is) ≡ length i.bytes + body_sum (drop (k + 1) is)
+body_sum-here is k i e = ap body_sum (drop_here is k i e) ∙ body_sum-cons i (drop (k + 1) is)

@@ -30,7 +30,6 @@ pub fn located_count(store: &Store<'_>) -> u64
     ensures value { result ≡ length (with_bytes store.now.items) }
     ensures few { result ≤ limits.ITEMS }
     ensures valid { Valid store.now }
-    ensures plain { IsPlain store.now }
 {
     let mut count = 0;
     for i in 0..store.len() {
@@ -43,7 +42,8 @@ pub fn located_count(store: &Store<'_>) -> u64
 
 /// The offset of each item in a file of so many bytes, which ends with the bytes of all items.
 fn starts_in(alloc: Global, store: &Store<'_>, total: u64) -> Result<Vec<Option<u64>>, NoMemory>
-    requires { body_sum store.now.items ≤ total }
+    requires total { body_sum store.now.items ≤ total }
+    requires plain { IsPlain store.now }
     ensures { IfOk result (λ v. v.items ≡ map (start_of own total store.now.items) store.now.items) }
 {
     let mut starts = Vec::with_capacity(alloc, store.len())?;
@@ -58,6 +58,7 @@ fn starts_in(alloc: Global, store: &Store<'_>, total: u64) -> Result<Vec<Option<
 
 /// The plan of the store's canonical file. `NoMemory` comes only where memory was refused.
 pub fn plan(alloc: Global, store: &Store<'_>) -> Result<Plan, NoMemory>
+    requires plain { IsPlain store.now }
     ensures { IfOk result (λ p. IsPlan store.now p) }
 {
     let wide = has_wide_id(store);

@@ -5,6 +5,7 @@ ghost use Rattle.hf_box.specs.Head.{box_len};
 ghost use Rattle.hf_box.specs.Written.{id_width};
 ghost use Rattle.hf_base.specs.declared.limits.TheConstants as limits;
 ghost use Rattle.hf_store.specs.Layout.{is_wide, with_bytes};
+ghost use Rattle.hf_store.specs.Plain.{IsPlain};
 ghost use Rattle.hf_loc.specs.Iloc.{offset_width};
 ghost use Rattle.hf_plan.specs.Plan.{sizes_of};
 
@@ -71,6 +72,7 @@ pub(crate) fn sizes_with(store: &Store<'_>, wide: bool, located: u64, long: bool
     requires wide { wide ≡ is_wide store.now.items }
     requires located { located ≡ length (with_bytes store.now.items) }
     requires few { located ≤ limits.ITEMS }
+    requires plain { IsPlain store.now }
     ensures value { result ≡ sizes_of long store.now }
     ensures bound { result.meta + result.mdat ≤ 2 ^ 40 }
 {

@@ -1,4 +1,5 @@
 pub mod BareLengths
+pub mod Bodies
 pub mod BoxLengths
 pub mod Capped
 pub mod Counted
