@@ -8,6 +8,7 @@ pub mod LongOffsets
 pub mod NotWritten
 pub mod OneFile
 pub mod OnePlan
+pub mod Pieces
 pub mod Places
 pub mod Plans
 pub mod PlansWorked

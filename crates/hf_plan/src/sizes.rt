@@ -7,6 +7,7 @@ ghost use Rattle.hf_loc.specs.Iloc.{offset_width};
 ghost use Rattle.hf_store.specs.Counts.{counts_of};
 ghost use Rattle.hf_store.specs.Sizes.{AreFew, ipma_size as ipma_stated, iloc_size as iloc_stated, short_infes, short_links, short_groups};
 ghost use Rattle.hf_base.specs.declared.limits.TheConstants as limits;
+ghost use Rattle.hf_store.specs.Valid.{Valid};
 ghost use Rattle.hf_plan.specs.Counted.{sizes_by as stated_sizes};
 ghost use Rattle.hf_plan.specs.Plan.{sizes_of};
 
@@ -127,10 +128,11 @@ fn iloc_size(wide: bool, long: bool, counts: Counts) -> u64
     boxed(6 + ids + counts.located * (6 + ids + (offsets + offsets)))
 }
 
-/// What is counted of a store, which is little.
+/// What is counted of a store, which is valid: each count is within the limits.
 fn counted(store: &Store<'_>) -> Counts
     ensures value { result ≡ counts_of store.now }
     ensures few { AreFew result }
+    ensures valid { Valid store.now }
 {
     store.valid();
     store.counts()
