@@ -4,10 +4,8 @@ ghost use Rattle.std.specs.Prelude.{◌≡◌, ◌+◌, ◌^◌, ◌<◌, ◌≤
 ghost use Rattle.hf_box.specs.Head.{box_len};
 ghost use Rattle.hf_box.specs.Written.{id_width};
 ghost use Rattle.hf_loc.specs.Iloc.{offset_width};
-ghost use Rattle.hf_store.specs.Counts.{counts_of};
 ghost use Rattle.hf_store.specs.Sizes.{AreFew, ipma_size as ipma_stated, iloc_size as iloc_stated, short_infes, short_links, short_groups};
 ghost use Rattle.hf_base.specs.declared.limits.TheConstants as limits;
-ghost use Rattle.hf_store.specs.Valid.{Valid};
 ghost use Rattle.hf_plan.specs.Counted.{sizes_by as stated_sizes};
 ghost use Rattle.hf_plan.specs.Plan.{sizes_of};
 
@@ -128,16 +126,6 @@ fn iloc_size(wide: bool, long: bool, counts: Counts) -> u64
     boxed(6 + ids + counts.located * (6 + ids + (offsets + offsets)))
 }
 
-/// What is counted of a store, which is valid: each count is within the limits.
-fn counted(store: &Store<'_>) -> Counts
-    ensures value { result ≡ counts_of store.now }
-    ensures few { AreFew result }
-    ensures valid { Valid store.now }
-{
-    store.valid();
-    store.counts()
-}
-
 /// The boxes of a store with these counts and so many distinct properties, whose boxes take so many
 /// bytes: with offsets of eight bytes where `long` and of four otherwise.
 fn sizes_by(long: bool, wide: bool, kinds: usize, props: u64, counts: Counts) -> Sizes
@@ -173,7 +161,7 @@ pub(crate) fn sizes_with(store: &Store<'_>, long: bool) -> Sizes
     ensures value { result ≡ sizes_of long store.now }
     ensures bound { result.meta + result.mdat ≤ 2 ^ 40 }
 {
-    let counts = counted(store);
+    let counts = store.counts();
     let wide = counts.wide > 0;
     sizes_by(long, wide, store.kinds(), store.kind_bytes(), counts)
 }
