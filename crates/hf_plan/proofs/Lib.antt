@@ -13,4 +13,5 @@ pub mod Pieces
 pub mod Places
 pub mod Plans
 pub mod PlansWorked
+pub mod Readers
 pub mod Starts

@@ -22,7 +22,7 @@ use Rattle.hf_plan.proofs.Pieces.{pieces_are}
 all_lists : (s : ItemStore) → all_props (lists_of s) ≡ flat_map props_of s.items
 all_lists s = flat_map-map (λ (ps : List Prop). ps) props_of s.items
 
-table-is : (s : ItemStore) → table (all_props (lists_of s)) ≡ table_of s
+pub table-is : (s : ItemStore) → table (all_props (lists_of s)) ≡ table_of s
 unfolding table_of
 table-is s = ap table (all_lists s)
 
