@@ -1,5 +1,5 @@
 -- The numbers of properties, item by item.
-use Rattle.std.proofs.Common.{◌≡◌, ℕ, zero, suc, ◌+◌, ◌-◌, ◌<◌, ◌≤◌, List, [], ◌∷◌, ◌++◌, length, length-append, map, take, drop, get_or, refl, sym, ap, ◌∙◌, subst, append_assoc, arith, Some}
+use Rattle.std.proofs.Common.{◌≡◌, ℕ, zero, suc, ◌+◌, ◌-◌, ◌<◌, List, [], ◌∷◌, ◌++◌, length, length-append, map, take, drop, refl, sym, ap, ◌∙◌, subst, append_assoc, arith, Some}
 use Rattle.std.specs.Prelude.{slice_get}
 use Rattle.std.specs.List.{slice_index}
 use Rattle.std.proofs.Math.Seq.{drop-append_seam}

@@ -16,11 +16,16 @@ planned_photograph =
       starts = refl;
       sizes = refl;
       firsts = (
-        first_use photograph 0 0 (tile 1) _ refl refl refl, (
-          first_use photograph 0 1 (tile 1) _ refl refl refl, (
-            first_use photograph 48 0 tiles _ refl refl refl, (
-              first_use photograph 48 1 tiles _ refl refl refl, (
-                first_use photograph 49 0 thumbnail _ refl refl refl, (first_use photograph 49 1 thumbnail _ refl refl refl, tt),
+        first_use photograph 0 0 (tile 1) _ refl refl refl,
+        (
+          first_use photograph 0 1 (tile 1) _ refl refl refl,
+          (
+            first_use photograph 48 0 tiles _ refl refl refl,
+            (
+              first_use photograph 48 1 tiles _ refl refl refl,
+              (
+                first_use photograph 49 0 thumbnail _ refl refl refl,
+                (first_use photograph 49 1 thumbnail _ refl refl refl, tt),
               ),
             ),
           ),
@@ -38,7 +43,8 @@ planned_every_feature = record {
   starts = refl;
   sizes = refl;
   firsts = (
-    first_use every_feature 0 0 _ _ refl refl refl, (first_use every_feature 0 1 _ _ refl refl refl, (first_use every_feature 1 2 _ _ refl refl refl, tt)),
+    first_use every_feature 0 0 _ _ refl refl refl,
+    (first_use every_feature 0 1 _ _ refl refl refl, (first_use every_feature 1 2 _ _ refl refl refl, tt)),
   );
   numbers = refl;
 }

@@ -14,7 +14,7 @@ use Rattle.hf_store.specs.Store.{Prop, ItemStore}
 use Rattle.hf_store.specs.Table.{number_of, props_of, lists_of, table_of}
 use Rattle.hf_store.proofs.Spots.{some_is, get_map, in_at}
 use Rattle.hf_plan.specs.Laws.{PlanTellsAll}
-use Rattle.hf_plan.specs.Plan.{start_of, numbers_of, IsFirstUse, Planned, IsNumber, IsPlan}
+use Rattle.hf_plan.specs.Plan.{start_of, IsFirstUse, Planned, IsNumber, IsPlan}
 use Rattle.hf_plan.proofs.Numbers.{table-is}
 
 -- what stands at a place of the first list has one of the second there

@@ -92,7 +92,10 @@ fn iref_size(wide: bool, counts: Counts) -> u64
     ensures bound { result ≤ 2 ^ 36 }
 {
     let ids = id_bytes(wide);
-    boxed_if_any(counts.links, 4 + (counts.links * (10 + ids) + counts.targets * ids))
+    boxed_if_any(
+        counts.links,
+        4 + (counts.links * (10 + ids) + counts.targets * ids),
+    )
 }
 
 /// The box that says which item has which of so many distinct properties.
@@ -112,7 +115,10 @@ fn grpl_size(counts: Counts) -> u64
     ensures value { result ≡ (if counts.groups == 0 then 0 else box_len (short_groups counts)) }
     ensures bound { result ≤ 2 ^ 36 }
 {
-    boxed_if_any(counts.groups, counts.groups * 20 + counts.entities * 4 + counts.tails)
+    boxed_if_any(
+        counts.groups,
+        counts.groups * 20 + counts.entities * 4 + counts.tails,
+    )
 }
 
 /// The box that says where the bytes of items stand.

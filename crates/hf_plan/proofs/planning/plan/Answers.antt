@@ -1,7 +1,5 @@
-use Rattle.std.proofs.Common.{◌≤◌, ◌^◌, ltb, false, refl, arith, ap, ◌∙◌}
+use Rattle.std.proofs.Common.{◌^◌, ltb, false, refl, arith, ap, ◌∙◌}
 use Rattle.std.specs.Prelude.{nat_le}
-use Rattle.hf_store.specs.Layout.{is_wide}
-use Rattle.hf_store.specs.Counts.{counts_of}
 use Rattle.hf_store.specs.declared.tally.Counts.{Counts}
 use Rattle.hf_store.proofs.CountsAre.{counts_are}
 use Rattle.hf_loc.specs.Iloc.{offset_width}

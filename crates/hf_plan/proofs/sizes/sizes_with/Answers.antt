@@ -1,4 +1,4 @@
-use Rattle.std.proofs.Common.{◌≡◌, ap, sym, ltb, ◌∙◌, arith}
+use Rattle.std.proofs.Common.{◌≡◌, ap, ltb, ◌∙◌, arith}
 use Rattle.hf_store.specs.Layout.{is_wide}
 use Rattle.hf_store.specs.declared.tally.Counts.{Counts}
 use Rattle.hf_store.proofs.CountsAre.{counts_are}
