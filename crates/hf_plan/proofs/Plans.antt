@@ -1,100 +1,26 @@
--- The sums of the plan are the lengths of the layout, and a plan gives the canonical file.
-use Rattle.std.proofs.Common.{◌≡◌, ℕ, ◌+◌, ◌*◌, ◌^◌, ◌<◌, ◌≤◌, Bool, true, false, List, length, refl, sym, ap, ◌∙◌, subst, arith, inl, inr}
-use Rattle.std.specs.Prelude.{nat_le}
+-- A plan gives the canonical file.
+use Rattle.std.proofs.Common.{◌≡◌, ℕ, ◌^◌, ◌<◌, ◌≤◌, Bool, true, false, cond, List, length, Some, None, refl, sym, ap, ◌∙◌, subst, arith, inl, inr}
+use Rattle.std.specs.Prelude.{nat_le, slice_get}
 use Rattle.std.proofs.lemmas.Bool.{leb-true, leb-false}
-use Rattle.hf_box.specs.Head.{box_len}
+use Rattle.hf_box.specs.Head.{box_len, box}
 use Rattle.hf_box.specs.Literals.{four}
-use Rattle.hf_box.specs.Written.{id_width}
-use Rattle.hf_head.specs.Ftyp.{ftyp_body}
-use Rattle.hf_store.specs.Store.{ItemStore}
-use Rattle.hf_store.specs.Table.{table_of}
-use Rattle.hf_info.specs.Iinf.{iinf_body}
 use Rattle.hf_loc.specs.Iloc.{offset_width, iloc_body}
-use Rattle.hf_prop.specs.Ipma.{ipma_body}
-use Rattle.hf_prop.specs.Iprp.{is_long_table, ipco_body, iprp_body}
-use Rattle.hf_store.specs.Layout.{own, is_wide, with_bytes, infos_of, assocs_of, iprp_of, entries_of, mdat_body, meta_body, laid}
-use Rattle.hf_store.specs.Valid.{body_sum, Valid}
-use Rattle.hf_store.specs.Plain.{IsPlain}
-use Rattle.hf_store.proofs.BoxLengths.{length-box, box_len-short, le-box_len}
+use Rattle.hf_store.specs.Layout.{own, is_wide, has_bytes, offset_of, entries_of, meta_body, laid}
+use Rattle.hf_store.specs.Store.{Item, ItemStore}
+use Rattle.hf_store.specs.Valid.{Valid}
+use Rattle.hf_store.proofs.BoxLengths.{length-box}
 use Rattle.hf_store.proofs.Lengths.{meta_body_len, length-meta_body, length-iloc_body}
-use Rattle.hf_store.proofs.PlainLengths.{length-iinf_body, length-iprp_body, length-ipma_body, length-ipco_body, no_iref, no_grpl, no_idat_box, front_len, length-meta_front}
-use Rattle.hf_plan.specs.declared.sizes.Sizes.{Sizes}
-use Rattle.hf_plan.specs.Lay.{Lay}
+use Rattle.hf_store.proofs.Spots.{some_is, get_map, in_at}
 use Rattle.hf_plan.specs.Canon.{Canon}
-use Rattle.hf_plan.specs.Plan.{sizes_of, Planned, IsPlan}
-use Rattle.hf_plan.proofs.Lengths.{file_len, length-laid, length-LayBy}
+use Rattle.hf_plan.specs.Laws.{PlanIsCanon}
+use Rattle.hf_plan.specs.Lay.{Lay}
+use Rattle.hf_plan.specs.Places.{source_of, StandsAt}
+use Rattle.hf_plan.specs.Plan.{start_of, sizes_of, Planned, IsPlan}
+use Rattle.hf_plan.specs.declared.sizes.Sizes.{Sizes}
 use Rattle.hf_plan.proofs.Bounds.{own_homes, lays, file_len-bound}
-use Rattle.hf_store.proofs.FieldLengths.{length-ftyp_body}
-use Rattle.hf_plan.proofs.Counts.{length-mdat_body}
+use Rattle.hf_plan.proofs.Lengths.{file_len, length-laid, length-LayBy}
 use Rattle.hf_plan.proofs.OneFile.{one_canon}
-
--- ---- the boxes
-
-sizes-are : (long : Bool) (s : ItemStore) → Valid s → IsPlain s → sizes_of long s ≡ record {
-  meta = box_len (meta_body_len (offset_width long) s);
-  iinf = box_len (4 + id_width (is_wide s.items) + length s.items * (19 + id_width (is_wide s.items)));
-  iref = 0;
-  iprp = 32;
-  ipco = 8;
-  ipma = 16;
-  grpl = 0;
-  idat = 0;
-  iloc = box_len (6 + id_width (is_wide s.items) + length (with_bytes s.items) * (6 + id_width (is_wide s.items) + (offset_width long + offset_width long)));
-  mdat = box_len (body_sum s.items);
-}
-unfolding sizes_of
-sizes-are long s valid plain =
-    let wide = is_wide s.items in
-    let w = offset_width long in
-    let meta = length-box (four "meta") (meta_body own w 0 s) refl ∙ ap box_len (length-meta_body own w 0 s) in
-    let iinf = length-box (four "iinf") (iinf_body wide (infos_of s.items)) refl ∙ ap box_len (length-iinf_body wide s.items s.items plain.items valid.items) in
-    let iprp = length-box (four "iprp") (iprp_body wide (iprp_of s)) refl ∙ ap box_len (length-iprp_body wide s plain.items) ∙ box_len-short 24 (omega arith) in
-    let ipco = length-box (four "ipco") (ipco_body (table_of s)) refl ∙ ap box_len (length-ipco_body s plain.items) ∙ box_len-short 0 (omega arith) in
-    let ipma = length-box (four "ipma") (ipma_body wide (is_long_table (table_of s)) (assocs_of (table_of s) s.items)) refl ∙ ap box_len (length-ipma_body wide s plain.items) ∙ box_len-short 8 (omega arith) in
-    let iloc = length-box (four "iloc") (iloc_body wide w (entries_of own 0 s.items)) refl ∙ ap box_len (length-iloc_body own wide w 0 s.items) in
-    let mdat = length-box (four "mdat") (mdat_body own s.items) refl ∙ ap box_len (length-mdat_body s.items plain.items) in
-    rw (meta, iinf, no_iref wide s plain, iprp, ipco, ipma, no_grpl s plain, no_idat_box s plain, iloc, mdat) refl
-
--- the code's sums
-pub sizes_made : (long : Bool) (s : ItemStore) → Valid s → IsPlain s → (ids items located offsets body pitm iinf iloc meta mdat : ℕ) → ids ≡ id_width (is_wide s.items) → items ≡ length s.items
-    → located ≡ length (with_bytes s.items) → offsets ≡ offset_width long → body ≡ body_sum s.items → pitm ≡ box_len (4 + ids) → iinf ≡ box_len (4 + ids + items * (19 + ids))
-    → iloc ≡ box_len (6 + ids + located * (6 + ids + 2 * offsets)) → meta ≡ box_len (69 + pitm + iinf + iloc) → mdat ≡ box_len body
-    → record { meta = meta; iinf = iinf; iref = 0; iprp = 32; ipco = 8; ipma = 16; grpl = 0; idat = 0; iloc = iloc; mdat = mdat } ≡ sizes_of long s
-unfolding meta_body_len front_len
-sizes_made long s valid plain ids items located offsets body pitm iinf iloc meta mdat hids hitems hlocated hoffsets hbody hpitm hiinf hiloc hmeta hmdat =
-    let made : ℕ → ℕ → ℕ → ℕ → Sizes = λ meta iinf iloc mdat. record { meta = meta; iinf = iinf; iref = 0; iprp = 32; ipco = 8; ipma = 16; grpl = 0; idat = 0; iloc = iloc; mdat = mdat } in
-    let v = id_width (is_wide s.items) in
-    let w = offset_width long in
-    let n = length (with_bytes s.items) in
-    let pitm_is : pitm ≡ box_len (4 + v) = hpitm ∙ ap (λ (k : ℕ). box_len (4 + k)) hids in
-    let iinf_is : iinf ≡ box_len (4 + v + length s.items * (19 + v)) = hiinf ∙ ap box_len (rw (hids, hitems) refl) in
-    let iloc_is : iloc ≡ box_len (6 + v + n * (6 + v + (w + w))) = hiloc ∙ ap box_len (rw (hids, hlocated, hoffsets) (omega arith)) in
-    let body_is : 69 + pitm + iinf + iloc ≡ meta_body_len w s = omega (arith, pitm_is, iinf_is, iloc_is, length-meta_front s valid.items plain) in
-    let meta_is : meta ≡ box_len (meta_body_len w s) = hmeta ∙ ap box_len body_is in
-    let mdat_is : mdat ≡ box_len (body_sum s.items) = hmdat ∙ ap box_len hbody in
-    let same : made meta iinf iloc mdat ≡ made (box_len (meta_body_len w s)) (box_len (4 + v + length s.items * (19 + v))) (box_len (6 + v + n * (6 + v + (w + w)))) (box_len (body_sum s.items)) = rw (meta_is, iinf_is, iloc_is, mdat_is) refl in
-    same ∙ sym (sizes-are long s valid plain)
-
--- the whole file
-pub total_made : (long : Bool) (s : ItemStore) (sizes : Sizes) (total : ℕ) → Valid s → IsPlain s → sizes ≡ sizes_of long s → total ≡ box_len (8 + length s.brands.compatible) + sizes.meta + sizes.mdat
-    → total ≡ length (laid own (offset_width long) 0 s)
-unfolding file_len
-total_made long s sizes total valid plain are sum =
-    let is = are ∙ sizes-are long s valid plain in
-    let meta = ap (λ (x : Sizes). x.meta) is in
-    let mdat = ap (λ (x : Sizes). x.mdat) is in
-    let ftyp : box_len (length (ftyp_body s.brands)) ≡ box_len (8 + length s.brands.compatible) = ap box_len (length-ftyp_body s.brands valid.brands.major) in
-    let body : box_len (length (mdat_body own s.items)) ≡ box_len (body_sum s.items) = ap box_len (length-mdat_body s.items plain.items) in
-    omega (arith, sum, meta, mdat, ftyp, body, length-laid own (offset_width long) 0 s)
-
--- it has room for the bytes of all items
-pub total_covers : (long : Bool) (s : ItemStore) (sizes : Sizes) (total : ℕ) → Valid s → IsPlain s → sizes ≡ sizes_of long s → total ≡ box_len (8 + length s.brands.compatible) + sizes.meta + sizes.mdat
-    → body_sum s.items ≤ total
-total_covers long s sizes total valid plain are sum =
-    let mdat = ap (λ (x : Sizes). x.mdat) (are ∙ sizes-are long s valid plain) in
-    omega (arith, sum, mdat, le-box_len (body_sum s.items))
-
--- ---- what a plan gives
+use Rattle.hf_plan.proofs.Places.{bytes_stand}
 
 canon_by : (s : ItemStore) (long : Bool) (total : ℕ) (F : List ℕ) → Valid s → long ≡ nat_le (2 ^ 32) (length (laid own 4 0 s)) → total ≡ length (laid own (offset_width long) 0 s)
     → F ≡ laid own (offset_width long) total s → Canon s F × Lay s (offset_width long) F
@@ -123,3 +49,54 @@ plan_finds s p F valid plan canon =
     let both = canon_by s p.long p.total (laid own w p.total s) valid plan.long plan.total refl in
     let same : laid own w p.total s ≡ F = one_canon s (laid own w p.total s) F both.0 canon in
     (subst (λ (G : List ℕ). Lay s w G) same both.1, ap length (sym same) ∙ length-laid own w p.total s ∙ sym (length-laid own w 0 s) ∙ sym plan.total)
+
+-- ---- what a plan says of that file
+
+-- the boxes with offsets in them are as long with any offsets
+meta_at : (s : ItemStore) (p : Planned) (n : ℕ) → IsPlan s p → length (box (four "meta") (meta_body own (offset_width p.long) n s)) ≡ p.sizes.meta
+unfolding sizes_of
+meta_at s p n plan =
+    let w = offset_width p.long in
+    let long : (m : ℕ) → length (box (four "meta") (meta_body own w m s)) ≡ box_len (meta_body_len w s) = λ m.
+    length-box (four "meta") (meta_body own w m s) refl ∙ ap box_len (length-meta_body own w m s)
+    in
+    long n ∙ sym (long 0) ∙ sym (ap (λ (x : Sizes). x.meta) plan.sizes)
+
+iloc_at : (s : ItemStore) (p : Planned) (n : ℕ) → IsPlan s p
+    → length (box (four "iloc") (iloc_body p.wide (offset_width p.long) (entries_of own n s.items))) ≡ p.sizes.iloc
+unfolding sizes_of
+iloc_at s p n plan =
+    let w = offset_width p.long in
+    let text : Bool → ℕ → List ℕ = λ wide m. iloc_body wide w (entries_of own m s.items) in
+    let long : (m : ℕ) → length (box (four "iloc") (text (is_wide s.items) m)) ≡ box_len (length (text (is_wide s.items) 0)) = λ m.
+    length-box (four "iloc") (text (is_wide s.items) m) refl
+    ∙ ap box_len (length-iloc_body own (is_wide s.items) w m s.items ∙ sym (length-iloc_body own (is_wide s.items) w 0 s.items))
+    in
+    ap (λ (b : Bool). length (box (four "iloc") (text b n))) plan.wide ∙ long n ∙ sym (long 0) ∙ sym (ap (λ (x : Sizes). x.iloc) plan.sizes)
+
+-- an offset that is told is that of an item with bytes
+start_some : (has : Bool) (offset n : ℕ) → cond has (Some offset) None ≡ Some n → (has ≡ true) × (offset ≡ n)
+start_some true offset n e = (refl, some_is e)
+start_some false offset n e = absurd cc
+
+start_stands : (s : ItemStore) (p : Planned) (F : List ℕ) (i n : ℕ) (item : Item) → Valid s → IsPlan s p → Lay s (offset_width p.long) F → length F ≡ p.total
+    → slice_get s.items i ≡ Some item → slice_get p.starts i ≡ Some (Some n) → StandsAt n item.bytes (source_of F s.items item)
+start_stands s p F i n item valid plan lay total here start =
+    let told : slice_get p.starts i ≡ Some (start_of own p.total s.items item) =
+    ap (λ os. slice_get os i) plan.starts ∙ get_map (start_of own p.total s.items) s.items i item here
+    in
+    let is = start_some (has_bytes item.bytes) (offset_of own p.total s.items item) n (some_is (sym told ∙ start)) in
+    let at : offset_of own (length F) s.items item ≡ n = ap (λ (m : ℕ). offset_of own m s.items item) total ∙ is.1 in
+    subst (λ (m : ℕ). StandsAt m item.bytes (source_of F s.items item)) at
+    (bytes_stand s (offset_width p.long) F item valid lay (in_at s.items i item here) is.0)
+
+pub plan_is_canon : PlanIsCanon
+plan_is_canon s p F valid plan canon =
+    let found = plan_finds s p F valid plan canon in
+    record {
+      lay = found.0;
+      total = found.1;
+      meta = meta_at s p (length F) plan;
+      iloc = iloc_at s p (length F) plan;
+      start = λ i n item here start. start_stands s p F i n item valid plan found.0 found.1 here start;
+    }

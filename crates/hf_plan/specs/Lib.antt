@@ -1,4 +1,5 @@
 pub mod Canon
+pub mod Counted
 pub mod Homes
 pub mod Large
 pub mod Laws

@@ -10,5 +10,5 @@ pub mod worked;
 pub mod worked_plans;
 
 pub use planned::Plan;
-pub use planning::{located_count, plan};
+pub use planning::plan;
 pub use sizes::Sizes;

@@ -1,77 +1,78 @@
 //! The plan is made.
 
-ghost use Rattle.std.specs.Prelude.{◌≡◌, ◌≤◌, length, map, IfOk};
-ghost use Rattle.hf_base.specs.declared.limits.TheConstants as limits;
-ghost use Rattle.hf_store.specs.Layout.{own, is_wide, with_bytes};
-ghost use Rattle.hf_store.specs.Valid.{Valid, body_sum};
-ghost use Rattle.hf_store.specs.Plain.{IsPlain};
+ghost use Rattle.std.specs.Prelude.{◌≡◌, ◌≤◌, map, Option, Some, None, IfOk, if◌then◌else◌};
+ghost use Rattle.hf_store.specs.Counts.{counts_of, counts_of_item};
+ghost use Rattle.hf_store.specs.Layout.{own, has_bytes, in_idat as stands_in_idat};
+ghost use Rattle.hf_store.specs.Seen.{item_of};
 ghost use Rattle.hf_plan.specs.Plan.{start_of, IsPlan};
 
 use crate::planned::Plan;
 use crate::sizes::{file_size, sizes_with};
 use hf_base::NoMemory;
-use hf_store::Store;
+use hf_store::{Item, Store, in_idat};
+use hf_table::make_table;
 use std::alloc::Global;
 
-/// Whether some id takes more than two bytes.
-fn has_wide_id(store: &Store<'_>) -> bool
-    ensures { result ≡ is_wide store.now.items }
+/// The bytes of an item that stand in `idat`.
+fn idat_len(item: &Item<'_>) -> u64
+    ensures { result ≡ (counts_of_item (item_of item.now)).idat }
 {
-    for i in 0..store.len() {
-        if store.at(i).id >= 65_536 {
-            return true;
-        }
-    }
-    false
+    if in_idat(item) { item.body.len() } else { 0 }
 }
 
-/// How many items have bytes.
-pub fn located_count(store: &Store<'_>) -> u64
-    ensures value { result ≡ length (with_bytes store.now.items) }
-    ensures few { result ≤ limits.ITEMS }
-    ensures valid { Valid store.now }
+/// The bytes of an item that stand in `mdat`.
+fn mdat_len(item: &Item<'_>) -> u64
+    ensures { result ≡ (counts_of_item (item_of item.now)).mdat }
 {
-    let mut count = 0;
-    for i in 0..store.len() {
-        if store.at(i).body.len() > 0 {
-            count += 1;
-        }
-    }
-    count
+    if in_idat(item) { 0 } else { item.body.len() }
 }
 
-/// The offset of each item in a file of so many bytes, which ends with the bytes of all items.
+/// The offset of an item: the next one in the body of `idat`, or the next one in the file.
+fn start_at(item: &Item<'_>, inner: u64, outer: u64) -> Option<u64>
+    ensures { result ≡ (if has_bytes (item_of item.now).bytes then Some (if stands_in_idat (item_of item.now) then inner else outer) else None) }
+{
+    if item.body.len() == 0 {
+        None
+    } else if in_idat(item) {
+        Some(inner)
+    } else {
+        Some(outer)
+    }
+}
+
+/// The offset of each item in a file of so many bytes, which ends with the bytes of `mdat`.
 fn starts_in(alloc: Global, store: &Store<'_>, total: u64) -> Result<Vec<Option<u64>>, NoMemory>
-    requires total { body_sum store.now.items ≤ total }
-    requires plain { IsPlain store.now }
+    requires { (counts_of store.now).mdat ≤ total }
     ensures { IfOk result (λ v. v.items ≡ map (start_of own total store.now.items) store.now.items) }
 {
     let mut starts = Vec::with_capacity(alloc, store.len())?;
-    let mut offset = total - store.body_sum();
+    let mut inner: u64 = 0;
+    let mut outer = total - store.counts().mdat;
     for i in 0..store.len() {
-        let len = store.at(i).body.len();
-        starts.push(if len > 0 { Some(offset) } else { None })?;
-        offset += len;
+        let item = store.at(i);
+        starts.push(start_at(item, inner, outer))?;
+        inner += idat_len(item);
+        outer += mdat_len(item);
     }
     Ok(starts)
 }
 
 /// The plan of the store's canonical file. `NoMemory` comes only where memory was refused.
 pub fn plan(alloc: Global, store: &Store<'_>) -> Result<Plan, NoMemory>
-    requires plain { IsPlain store.now }
     ensures { IfOk result (λ p. IsPlan store.now p) }
 {
-    let wide = has_wide_id(store);
-    let located = located_count(store);
-    let long = file_size(store, &sizes_with(store, wide, located, false)) >= 1 << 32;
-    let sizes = sizes_with(store, wide, located, long);
+    let wide = store.counts().wide > 0;
+    let long = file_size(store, &sizes_with(store, false)) >= 1 << 32;
+    let sizes = sizes_with(store, long);
     let total = file_size(store, &sizes);
     let starts = starts_in(alloc, store, total)?;
+    let table = make_table(alloc, store)?;
     Ok(Plan {
         wide,
         long,
         total,
         starts,
         sizes,
+        table,
     })
 }

@@ -1,5 +1,5 @@
 -- The distinct properties of a store, in the order of their first use: the boxes of `ipco` in a canonical file.
-use Rattle.std.specs.Prelude.{List}
+use Rattle.std.specs.Prelude.{List, map}
 use Rattle.std.specs.List.{flat_map}
 use Rattle.hf_table.specs.Held.{props_in}
 use Rattle.hf_table.specs.Table.{table}
@@ -9,6 +9,10 @@ pub use Rattle.hf_table.specs.Table.{same_prop, with_prop, number_of}
 -- the properties of an item, without their essential marks
 abbrev pub props_of : Item → List Prop
 props_of i = props_in i.props
+
+-- those of each item, items in order
+abbrev pub lists_of : ItemStore → List (List Prop)
+lists_of s = map props_of s.items
 
 unfoldable pub table_of : ItemStore → List Prop
 table_of s = table (flat_map props_of s.items)

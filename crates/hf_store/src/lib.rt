@@ -23,4 +23,4 @@ pub use item::{GroupList, Item, ItemList, Props, RefList, Refs};
 pub use reason::Reason;
 pub use removal::{needed_by, remove_item};
 pub use store::{Parts, Store};
-pub use tally::Counts;
+pub use tally::{Counts, in_idat};

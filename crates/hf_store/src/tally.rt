@@ -172,8 +172,8 @@ pub(crate) fn count_targets(refs: &[RefList]) -> u64
     sum
 }
 
-/// Whether the bytes of an item stand in `idat`.
-fn in_idat(item: &Item<'_>) -> bool
+/// Whether the bytes of an item stand in `idat`: those of a `grid` or an `iovl` with 1 to 256 bytes.
+pub fn in_idat(item: &Item<'_>) -> bool
     ensures { result ≡ stands_in_idat (item_of item.now) }
 {
     (item.kind == GRID || item.kind == IOVL) && item.body.len() > 0 && item.body.len() <= 256

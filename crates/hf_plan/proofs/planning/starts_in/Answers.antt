@@ -1,24 +1,32 @@
-use Rattle.std.proofs.Common.{◌≡◌, arith, ◌∙◌, sym}
-
-use Rattle.hf_store.specs.Layout.{own}
+use Rattle.std.proofs.Common.{◌-◌, ap, arith}
 use Rattle.hf_store.specs.Seen.{item_of}
-use Rattle.hf_plan.specs.Plan.{start_of}
-use Rattle.hf_plan.proofs.Counts.{body_sum-here, start_some, start_none, mapped_here}
+use Rattle.hf_store.specs.declared.tally.Counts.{Counts}
+use Rattle.hf_store.proofs.FewCounts.{counts_are_few}
+use Rattle.hf_plan.proofs.Starts.{starts_first, bytes_within, starts_next, starts_end}
 use Rattle.hf_plan.proofs.planning.starts_in.Goals as goal
-use Rattle.hf_plan.proofs.planning.starts_in.Goals.{then-len-gt0, else-len-gt0}
 
-pub overflow_add-offset : goal.overflow_add-offset
-overflow_add-offset c = omega (arith, c.loop-i.invariant.0, c.len-len.ensures.count, body_sum-here c.args.store.now.items c.loop-i.i _ c.at.ensures)
+pub loop-i-init : goal.loop-i-init
+loop-i-init c = starts_first c.args.store.now c.args.total _ _ c.in_ok-starts.ensures.items (ap (λ (k : Counts). c.args.total - k.mdat) c.counts.ensures.value)
+
+pub overflow_add-inner : goal.overflow_add-inner
+overflow_add-inner c =
+    let s = c.args.store.now in
+    let within = bytes_within s c.loop-i.i (item_of c.at-item.result.now) c.at-item.ensures in
+    omega (arith, within.0, c.loop-i.invariant.inner_is, c.idat_len-inner.ensures, (counts_are_few s c.len-i-end.ensures.valid).0.idat)
+
+pub overflow_add-outer : goal.overflow_add-outer
+overflow_add-outer c =
+    let s = c.args.store.now in
+    let within = bytes_within s c.loop-i.i (item_of c.at-item.result.now) c.at-item.ensures in
+    omega (arith, within.1, c.loop-i.invariant.outer_is, c.mdat_len-outer.ensures, c.requires, c.ranges.total.fits)
 
 pub loop-i-preserved : goal.loop-i-preserved
 loop-i-preserved c =
     let s = c.args.store.now in
-    let i = item_of c.at.result.now in
-    let offset_is = body_sum-here s.items c.loop-i.i _ c.at.ensures in
-    let same : start_of own c.args.total s.items i ≡ c.if-len-gt0.push = elim c.if-len-gt0.branch [
-      | then-len-gt0 w ↦ start_some s c.args.total c.loop-i.offset c.loop-i.i i c.len-i-end.ensures.valid c.requires.plain c.at.ensures c.loop-i.invariant.0 (omega (arith, w.if-len-gt0, c.len-len.ensures.count)) ∙ sym w.push-is
-      | else-len-gt0 w ↦ start_none c.args.total s.items i (omega (arith, w.if-len-gt0, c.len-len.ensures.count)) ∙ sym w.push-is
-    ] in (
-      omega (arith, c.loop-i.invariant.0, c.len-len.ensures.count, offset_is),
-      mapped_here (start_of own c.args.total s.items) s.items c.loop-i.i i _ _ _ _ c.at.ensures c.in_ok-push.ensures.items same c.loop-i.invariant.1,
-    )
+    starts_next s c.args.total c.loop-i.i c.loop-i.inner c.loop-i.outer _ _ (item_of c.at-item.result.now) c.loop-i.starts.items _ _ c.len-i-end.ensures.valid
+    c.requires c.loop-i.invariant c.at-item.ensures c.in_ok-push.ensures.items c.start_at.ensures c.idat_len-inner.ensures c.mdat_len-outer.ensures
+
+pub returns : goal.returns
+returns c =
+    let s = c.args.store.now in
+    starts_end s c.args.total c.loop-i.i c.loop-i.inner c.loop-i.outer c.loop-i.starts.items c.loop-i.invariant (omega (arith, c.len-i-end.ensures.count))
