@@ -21,7 +21,8 @@ use Rattle.hf_head.proofs.FtypLemmas as ftyp_laws
 use Rattle.hf_head.proofs.HdlrLemmas as hdlr_laws
 use Rattle.hf_head.proofs.PitmLemmas as pitm_laws
 use Rattle.hf_store.specs.Lists.{IsIn}
-use Rattle.hf_store.specs.Store.{Held, RefList, Item, ItemStore, ids_of}
+use Rattle.hf_store.specs.Store.{Held, Item, ItemStore, ids_of}
+use Rattle.hf_store.specs.declared.item.RefList.{RefList}
 use Rattle.hf_info.specs.Iinf.{iinf_body}
 use Rattle.hf_loc.specs.Iloc.{iloc_body}
 use Rattle.hf_prop.specs.Iprp.{iprp_body}

@@ -11,18 +11,17 @@ use Rattle.hf_base.specs.Reading.{Fails, IfUnfit}
 use Rattle.hf_base.specs.declared.fault.OpenFault.{OpenFault}
 use Rattle.hf_base.specs.declared.fault.OpenFault.TheVariants as errors
 use Rattle.hf_base.specs.declared.limits.TheConstants as limits
-use Rattle.hf_store.specs.Store.{Item}
+use Rattle.hf_store.specs.Store.{Item, Group}
 use Rattle.hf_store.specs.Valid.{Valid}
-use Rattle.hf_store.specs.Plain.{IsPlain}
 use Rattle.hf_app.specs.Iinf.{Info, info_of, infos_of}
 use Rattle.hf_app.specs.Iloc.{Loc}
 use Rattle.hf_app.specs.declared.iinf.Info.{Info as View}
 use Rattle.hf_app.specs.declared.iloc.Loc.{Loc as LocView}
 use Rattle.hf_app.specs.Denotes.{is_out, Denotes, Read, reading, fault_in, fault_of}
-use Rattle.hf_app.specs.Items.{items_at, LiesWithin}
+use Rattle.hf_app.specs.Items.{items_at, store_at, LiesWithin}
 use Rattle.hf_app.specs.Places.{Finds}
 use Rattle.hf_app.proofs.ReadLemmas.{IsRead, is_read}
-use Rattle.hf_app.proofs.StoreLemmas.{IsWithin, AreSorted, are_sorted, sorted_within, store_plain, store_valid, store_denoted}
+use Rattle.hf_app.proofs.StoreLemmas.{IsWithin, AreSorted, are_sorted, sorted_within, store_valid, store_denoted}
 
 lies_each : (len : ℕ) (places : BTreeMap ℕ LocView) (locs : List Loc) (views : List View) → Finds places locs → AllByRecursion (IsWithin len locs) (infos_of views) → AllByRecursion (LiesWithin len places) views
 lies_each len places locs [] finds h = tt
@@ -53,14 +52,15 @@ module _ (F : List ℕ) (r : Read) (views sorted : List View) (fits : IsBytes F)
   pub lies_within : (places : BTreeMap ℕ LocView) → Finds places r.locs → All (LiesWithin (length F) places) sorted
   lies_within places finds = All-from_recursion (LiesWithin (length F) places) sorted (lies_each (length F) places r.locs sorted finds (sorted_within F r (infos_of sorted) is are))
 
-  pub made_valid : (items : List Item) → items ≡ items_at F r.locs (infos_of sorted) → Valid (record { brands = r.brands; primary = r.primary; items = items; groups = [] })
-  made_valid items e = subst (λ (l : List Item). Valid (record { brands = r.brands; primary = r.primary; items = l; groups = [] })) (sym e) (store_valid F r (infos_of sorted) small is are)
+  pub made_is : (items : List Item) (groups : List Group) → items ≡ items_at F r.locs (infos_of sorted) → groups ≡ []
+      → record { brands = r.brands; primary = r.primary; items = items; groups = groups } ≡ store_at F r (infos_of sorted)
+  made_is items groups e none = λ j. record { brands = r.brands; primary = r.primary; items = e j; groups = none j }
 
-  pub made_plain : (items : List Item) → items ≡ items_at F r.locs (infos_of sorted) → IsPlain (record { brands = r.brands; primary = r.primary; items = items; groups = [] })
-  made_plain items e = subst (λ (l : List Item). IsPlain (record { brands = r.brands; primary = r.primary; items = l; groups = [] })) (sym e) (store_plain F r (infos_of sorted) is are)
+  pub made_valid : Valid (store_at F r (infos_of sorted))
+  made_valid = store_valid F r (infos_of sorted) small is are
 
-  pub made_denoted : (items : List Item) → items ≡ items_at F r.locs (infos_of sorted) → Denotes F (record { brands = r.brands; primary = r.primary; items = items; groups = [] })
-  made_denoted items e = subst (λ (l : List Item). Denotes F (record { brands = r.brands; primary = r.primary; items = l; groups = [] })) (sym e) (store_denoted F r (infos_of sorted) small is are).0
+  pub made_denoted : Denotes F (store_at F r (infos_of sorted))
+  made_denoted = (store_denoted F r (infos_of sorted) small is are).0
 
 pub fault_is : (F : List ℕ) (e : OpenFault) → Fails e (reading F) → IfUnfit e (λ fault. fault_of F ≡ Some fault)
 unfolding fault_of

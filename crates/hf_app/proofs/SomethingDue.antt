@@ -11,7 +11,8 @@ use Rattle.hf_store.specs.Plain.{IsPlain}
 use Rattle.hf_store.specs.Valid.{Valid}
 use Rattle.hf_store.specs.Changes.{Edit, step, why}
 use Rattle.hf_store.specs.declared.reason.Reason.{Reason}
-use Rattle.hf_store.proofs.Removals.{steps_keep_validity, steps_keep_plain}
+use Rattle.hf_store.proofs.CutValid.{steps_keep_validity}
+use Rattle.hf_store.proofs.Removals.{steps_keep_plain}
 use Rattle.hf_plan.proofs.OneFile.{has_canon}
 use Rattle.hf_app.specs.Denotes.{Denotes, reading, fault_of}
 use Rattle.hf_app.specs.Due.{Due, IsDueOf, IsDueOfFile, IsDueOfEdits, answered, due_of_rows}
@@ -20,7 +21,7 @@ use Rattle.hf_app.specs.Items.{store_at}
 use Rattle.hf_text.specs.Words.{Command, Boxes, EditFile}
 use Rattle.hf_text.specs.declared.outcome.Outcome.TheVariants.{Unfit, Refused, TooLong}
 use Rattle.hf_app.proofs.Denoting.{canon_denotes}
-use Rattle.hf_app.proofs.DenotesLaws.{fault_none}
+use Rattle.hf_app.proofs.DenotesLaws.{denotes_one, fault_none}
 use Rattle.hf_app.proofs.DueLaws.{Stepped, made}
 use Rattle.hf_app.proofs.ReadLemmas.{is_read}
 use Rattle.hf_app.proofs.SortLemmas.{by_id}
@@ -37,7 +38,7 @@ Keeps edits = (n : ℕ) (s after : ItemStore) → IsGood s → stepped n s edits
 
 keeps_first : (e : Edit) (es : List Edit) → Keeps es → (n : ℕ) (s after : ItemStore) → IsGood s → (o : Option Reason) → why s e ≡ o → unless n o (stepped (n + 1) (step s e) es) ≡ Ok after → IsGood after
 unfolding Keeps
-keeps_first e es more n s after good None none steps = more (n + 1) (step s e) after (record { valid = steps_keep_validity s e good.valid good.plain none; plain = steps_keep_plain s e good.plain }) steps
+keeps_first e es more n s after good None none steps = more (n + 1) (step s e) after (record { valid = steps_keep_validity s e good.valid none; plain = steps_keep_plain s e good.plain }) steps
 keeps_first e es more n s after good (Some reason) some steps = absurd (cc)
 
 keeps_all : (edits : List Edit) → Keeps edits
@@ -62,6 +63,13 @@ has_store file fits small none =
       denoted = (store_denoted file p.0 (by_id p.0.infos) small read sorted).0;
       good = record { valid = store_valid file p.0 (by_id p.0.infos) small read sorted; plain = store_plain file p.0 (by_id p.0.infos) read sorted };
     }
+
+-- what is left of the store of a file after edits is plain
+pub edited_plain : (file : List ℕ) (s after : ItemStore) (edits : List Edit) → IsBytes file → length file ≤ FILE → Denotes file s → fault_of file ≡ None → stepped 1 s edits ≡ Ok after → IsPlain after
+unfolding Keeps
+edited_plain file s after edits fits small denoted none steps =
+    let has = has_store file fits small none in
+    (keeps_all edits 1 s after (subst IsGood (denotes_one file has.store s has.denoted denoted) has.good) steps).plain
 
 -- the edits of a file that denotes a store are refused, or make a file
 due_of_steps : (file out : List ℕ) (edits : List Edit) → fault_of file ≡ None → (has : HasStore file) → (r : Stepped) → stepped 1 has.store edits ≡ r → (d : Due) × IsDueOfEdits file out edits d

@@ -29,7 +29,8 @@ use Rattle.hf_store.specs.Plain.{IsPlainItem, ArePlain, IsPlain}
 use Rattle.hf_store.proofs.BoxLengths.{box_len-le}
 use Rattle.hf_store.proofs.Lengths.{meta_body_len, meta_len-is}
 use Rattle.hf_store.proofs.PlainLengths.{front_len, length-meta_front, no_table}
-use Rattle.hf_store.proofs.Removals.{ends_plain, body_sum-cons}
+use Rattle.hf_store.specs.Derived.{IsEndless, input_pairs}
+use Rattle.hf_store.proofs.Bodies.{body_sum-cons}
 use Rattle.hf_app.specs.Entries.{AreTexts}
 use Rattle.hf_app.specs.Iinf.{Info, is_plain_kind, IsInfe, IsIinf}
 use Rattle.hf_app.specs.Iloc.{Loc}
@@ -130,6 +131,14 @@ entries_in_items F all locs infos among =
     all_from (λ (info : Info). IsIn info.id (ids_of (items_at F locs infos))) all (λ i k. subst (λ (l : List ℕ). IsIn i.id l) (sym (ids_at F locs infos)) (in_map (λ (x : Info). x.id) infos i (among i k)))
 
 -- ---- it is plain
+
+no_pairs : (is : List Item) → ArePlain is → input_pairs is ≡ []
+no_pairs [] plain = refl
+no_pairs (i ∷ is) plain = rw plain.0.refs (no_pairs is plain.1)
+
+-- no item of a plain store is made of others
+ends_plain : (is : List Item) → ArePlain is → (walk : ℕ → ℕ) → IsEndless (input_pairs is) walk → ⊥
+ends_plain is plain walk h = subst (IsIn (walk 0, walk 1)) (no_pairs is plain) (h 0)
 
 record IsKind (kind : FourCc) : Type 0 where
   mime : is_kind kind MIME ≡ false

@@ -14,9 +14,9 @@ ghost use Rattle.hf_app.specs.Places.{Finds};
 use crate::iinf::Info;
 use crate::iloc::Loc;
 use crate::places::entry_of;
-use hf_base::NoMemory;
+use hf_base::{NoMemory, Series};
 use hf_pieces::Pieces;
-use hf_store::Item;
+use hf_store::{Item, ItemList};
 use std::alloc::Global;
 use std::collections::BTreeMap;
 
@@ -51,7 +51,14 @@ fn item<'a>(
     Ok(Item {
         id: info.id,
         kind: info.kind,
+        hidden: false,
+        name: b"",
+        content: b"",
+        encoding: b"",
+        uri: b"",
         body,
+        props: Series::new(alloc),
+        refs: Series::new(alloc),
     })
 }
 
@@ -61,12 +68,12 @@ pub fn items<'a>(
     file: &'a [u8],
     places: &BTreeMap<u32, Loc>,
     infos: &[Info],
-) -> Result<Vec<Item<'a>>, NoMemory>
+) -> Result<ItemList<'a>, NoMemory>
     requires small { length file.now ≤ limits.FILE }
     requires within { All (LiesWithin (length file.now) places.now) infos.now }
-    ensures { (locs : List Stated) → Finds places.now locs → IfOk result (λ items. items_of items.items ≡ items_at file.now locs (infos_of infos.now)) }
+    ensures { (locs : List Stated) → Finds places.now locs → IfOk result (λ items. items_of items ≡ items_at file.now locs (infos_of infos.now)) }
 {
-    let mut items = Vec::with_capacity(alloc, infos.len())?;
+    let mut items = Series::with_capacity(alloc, infos.len())?;
     for info in infos {
         items.push(item(alloc, file, places, info)?)?;
     }

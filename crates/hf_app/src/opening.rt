@@ -20,7 +20,7 @@ use crate::level::check_later;
 use crate::places::{check_places, places};
 use crate::top_level::{MetaParts, children_of, parts_of, top_of};
 use hf_base::kinds::META;
-use hf_base::{NoMemory, OpenFault};
+use hf_base::{NoMemory, OpenFault, Series};
 use hf_box::{BoxView, read_boxes};
 use hf_head::Brands;
 use hf_store::{Parts, Store};
@@ -105,11 +105,15 @@ fn store_of<'a>(
 {
     let infos = by_id(fields.infos)?;
     let items = items(alloc, file, places, &infos)?;
-    Ok(Store::of(Parts {
-        brands,
-        primary: fields.primary,
-        items,
-    }))
+    Store::of(
+        alloc,
+        Parts {
+            brands,
+            primary: fields.primary,
+            items,
+            groups: Series::new(alloc),
+        },
+    )
 }
 
 /// Opens a plain file: the store that it denotes, or the first reason why it is refused. Which

@@ -9,7 +9,8 @@ use Rattle.hf_base.specs.NumberLaws.{length-num}
 use Rattle.hf_base.specs.declared.four.FourCc.{FourCc}
 use Rattle.hf_base.specs.declared.limits.TheConstants as limits
 use Rattle.hf_store.specs.Lists.{IsIn, RisesFrom}
-use Rattle.hf_store.specs.Store.{Prop, Held, RefList, Item, Group, ItemStore, ids_of}
+use Rattle.hf_store.specs.Store.{Prop, Held, Item, Group, ItemStore, ids_of}
+use Rattle.hf_store.specs.declared.item.RefList.{RefList}
 use Rattle.hf_box.specs.Literals.{four}
 use Rattle.hf_box.specs.Written.{id_width}
 use Rattle.hf_head.specs.Ftyp.{ftyp_body}

@@ -3,7 +3,8 @@ use Rattle.std.proofs.Common.{◌≡◌, ℕ, ◌+◌, ◌≤◌, Bool, cond, So
 use Rattle.std.specs.Prelude.{slice_get}
 use Rattle.hf_box.specs.Head.{box_len}
 use Rattle.hf_loc.specs.Iloc.{offset_width}
-use Rattle.hf_store.specs.Counts.{Counts, counts_of, counts_before}
+use Rattle.hf_store.specs.Counts.{counts_of, counts_before}
+use Rattle.hf_store.specs.declared.tally.Counts.{Counts}
 use Rattle.hf_store.specs.Layout.{own, is_wide, has_bytes, laid}
 use Rattle.hf_store.specs.Offsets.{offset_by}
 use Rattle.hf_store.specs.Sizes.{short_props, file_size_by, counted_inner}

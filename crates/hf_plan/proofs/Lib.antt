@@ -6,8 +6,12 @@ pub mod Large
 pub mod Lengths
 pub mod LongOffsets
 pub mod NotWritten
+pub mod Numbers
 pub mod OneFile
 pub mod OnePlan
+pub mod Pieces
 pub mod Places
 pub mod Plans
 pub mod PlansWorked
+pub mod Readers
+pub mod Starts

@@ -1,7 +1,7 @@
 -- The lengths of boxes by what is counted of a store.
 use Rattle.std.specs.Prelude.{ℕ, Bool}
 use Rattle.hf_loc.specs.Iloc.{offset_width}
-use Rattle.hf_store.specs.Counts.{Counts}
+use Rattle.hf_store.specs.declared.tally.Counts.{Counts}
 use Rattle.hf_store.specs.Sizes.{short_inner, iinf_size, iref_size, ipco_size, ipma_size, iprp_size, grpl_size, idat_size, iloc_size, meta_size_by, mdat_size}
 use Rattle.hf_plan.specs.declared.sizes.Sizes.{Sizes}
 

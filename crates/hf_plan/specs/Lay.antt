@@ -1,7 +1,8 @@
 -- The layout of a store in a file, as a relation.
 use Rattle.std.specs.Prelude.{ℕ, ◌≡◌, ◌^◌, ◌<◌, Bool, List, length, if◌then◌else◌}
 use Rattle.std.specs.List.{AllByRecursion}
-use Rattle.hf_store.specs.Store.{Prop, Held, RefList, Item, Group, ItemStore}
+use Rattle.hf_store.specs.Store.{Prop, Held, Item, Group, ItemStore}
+use Rattle.hf_store.specs.declared.item.RefList.{RefList}
 use Rattle.hf_box.specs.Written.{id_width}
 use Rattle.hf_store.specs.Table.{table_of, number_of}
 use Rattle.hf_prop.specs.Iprp.{is_long_table}

@@ -1,6 +1,6 @@
 //! Laws of the canonical file. Each is the contract of a function that does nothing.
 
-ghost use Rattle.hf_plan.specs.Laws.{HasCanon, OneCanon, NarrowIsAsLong, NarrowIsShorter, OnePlan, PlanIsCanon};
+ghost use Rattle.hf_plan.specs.Laws.{HasCanon, OneCanon, NarrowIsAsLong, NarrowIsShorter, OnePlan, PlanIsCanon, PlanTellsAll};
 ghost use Rattle.hf_plan.specs.Places.{BytesStand};
 
 /// Each valid store has one canonical file, and only one.
@@ -22,9 +22,16 @@ pub fn bytes_stand_at_their_offsets()
     ensures { BytesStand }
 {}
 
-/// The plan of a store is that of its canonical file: it has the length and the offsets' width.
+/// The plan of a store is that of its canonical file: it has the width of offsets, the length and
+/// the lengths of boxes, and the bytes of each item stand where the plan says.
 pub fn plan_is_of_the_canonical_file()
     ensures { PlanIsCanon }
+{}
+
+/// A plan tells the offset of each item, where each distinct property is first used, and the number
+/// of each property of an item, which is the place of its box in `ipco`.
+pub fn plan_tells_all()
+    ensures { PlanTellsAll }
 {}
 
 /// A store has one plan, and no other.

@@ -61,13 +61,14 @@ fn starts_in(alloc: Global, store: &Store<'_>, total: u64) -> Result<Vec<Option<
 pub fn plan(alloc: Global, store: &Store<'_>) -> Result<Plan, NoMemory>
     ensures { IfOk result (λ p. IsPlan store.now p) }
 {
+    let wide = store.counts().wide > 0;
     let long = file_size(store, &sizes_with(store, false)) >= 1 << 32;
     let sizes = sizes_with(store, long);
     let total = file_size(store, &sizes);
     let starts = starts_in(alloc, store, total)?;
     let table = make_table(alloc, store)?;
     Ok(Plan {
-        wide: store.counts().wide > 0,
+        wide,
         long,
         total,
         starts,

@@ -4,7 +4,6 @@ ghost use Rattle.std.specs.Prelude.{◌≡◌, ◌+◌, ◌^◌, ◌<◌, ◌≤
 ghost use Rattle.hf_box.specs.Head.{box_len};
 ghost use Rattle.hf_box.specs.Written.{id_width};
 ghost use Rattle.hf_loc.specs.Iloc.{offset_width};
-ghost use Rattle.hf_store.specs.Counts.{counts_of};
 ghost use Rattle.hf_store.specs.Sizes.{AreFew, ipma_size as ipma_stated, iloc_size as iloc_stated, short_infes, short_links, short_groups};
 ghost use Rattle.hf_base.specs.declared.limits.TheConstants as limits;
 ghost use Rattle.hf_plan.specs.Counted.{sizes_by as stated_sizes};
@@ -93,7 +92,10 @@ fn iref_size(wide: bool, counts: Counts) -> u64
     ensures bound { result ≤ 2 ^ 36 }
 {
     let ids = id_bytes(wide);
-    boxed_if_any(counts.links, 4 + (counts.links * (10 + ids) + counts.targets * ids))
+    boxed_if_any(
+        counts.links,
+        4 + (counts.links * (10 + ids) + counts.targets * ids),
+    )
 }
 
 /// The box that says which item has which of so many distinct properties.
@@ -113,7 +115,10 @@ fn grpl_size(counts: Counts) -> u64
     ensures value { result ≡ (if counts.groups == 0 then 0 else box_len (short_groups counts)) }
     ensures bound { result ≤ 2 ^ 36 }
 {
-    boxed_if_any(counts.groups, counts.groups * 20 + counts.entities * 4 + counts.tails)
+    boxed_if_any(
+        counts.groups,
+        counts.groups * 20 + counts.entities * 4 + counts.tails,
+    )
 }
 
 /// The box that says where the bytes of items stand.
@@ -125,15 +130,6 @@ fn iloc_size(wide: bool, long: bool, counts: Counts) -> u64
     let ids = id_bytes(wide);
     let offsets = offset_bytes(long);
     boxed(6 + ids + counts.located * (6 + ids + (offsets + offsets)))
-}
-
-/// What is counted of a store, which is little.
-fn counted(store: &Store<'_>) -> Counts
-    ensures value { result ≡ counts_of store.now }
-    ensures few { AreFew result }
-{
-    store.valid();
-    store.counts()
 }
 
 /// The boxes of a store with these counts and so many distinct properties, whose boxes take so many
@@ -171,7 +167,7 @@ pub(crate) fn sizes_with(store: &Store<'_>, long: bool) -> Sizes
     ensures value { result ≡ sizes_of long store.now }
     ensures bound { result.meta + result.mdat ≤ 2 ^ 40 }
 {
-    let counts = counted(store);
+    let counts = store.counts();
     let wide = counts.wide > 0;
     sizes_by(long, wide, store.kinds(), store.kind_bytes(), counts)
 }

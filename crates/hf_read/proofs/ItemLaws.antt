@@ -14,7 +14,7 @@ use Rattle.hf_info.specs.Iinf.{info_ids}
 use Rattle.hf_order.proofs.Members.{in_map, from_map}
 use Rattle.hf_store.specs.Store.{Item, ids_of}
 use Rattle.hf_store.specs.Valid.{body_sum}
-use Rattle.hf_store.proofs.Removals.{body_sum-cons}
+use Rattle.hf_store.proofs.Bodies.{body_sum-cons}
 use Rattle.hf_read.specs.Denotes.{IsItemOf}
 use Rattle.hf_read.specs.Reading.{item_of, item_at}
 use Rattle.hf_read.specs.Tables.{Tables, infos_by_id, located_in, items_in}

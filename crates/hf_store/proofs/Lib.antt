@@ -1,4 +1,5 @@
 pub mod BareLengths
+pub mod Bodies
 pub mod BoxLengths
 pub mod Capped
 pub mod Counted
@@ -33,4 +34,5 @@ pub mod Sizes
 pub mod Spots
 pub mod Tables
 pub mod Tallied
+pub mod Uses
 pub mod ValidStores

@@ -7,6 +7,7 @@ ghost use Rattle.hf_head.specs.Ftyp.{brands_of};
 ghost use Rattle.hf_links.specs.Grpl.{group_of};
 ghost use Rattle.hf_store.specs.Counts.{counts_of};
 ghost use Rattle.hf_store.specs.Lists.{IsIn};
+ghost use Rattle.hf_store.specs.Sizes.{AreFew};
 ghost use Rattle.hf_store.specs.Store.{ids_of};
 ghost use Rattle.hf_store.specs.Table.{props_of, table_of};
 ghost use Rattle.hf_store.specs.Valid.{Valid, body_sum, meta_len};
@@ -193,7 +194,9 @@ impl<'a> Store<'a> {
 
     /// What is counted over the items and groups.
     pub fn counts(&self) -> Counts
-        ensures { result ≡ counts_of self.now }
+        ensures value { result ≡ counts_of self.now }
+        ensures few { AreFew result }
+        ensures valid { Valid self.now }
     {
         self.counts
     }

@@ -50,7 +50,7 @@ module _ (lists : List (List Prop)) where
   first-unique : (ps : List Prop) (v w : ℕ × ℕ) (p : Prop) → IsFirst lists ps v p → IsFirst lists ps w p → v ≡ w
   first-unique ps v w p f g = same-place v w p p f.stands g.stands (f.place ∙ sym g.place)
 
-  firsts-unique : (ps : List Prop) (vs ws : List (ℕ × ℕ)) (qs : List Prop) → AllZip (IsFirst lists ps) vs qs → AllZip (IsFirst lists ps) ws qs → vs ≡ ws
+  pub firsts-unique : (ps : List Prop) (vs ws : List (ℕ × ℕ)) (qs : List Prop) → AllZip (IsFirst lists ps) vs qs → AllZip (IsFirst lists ps) ws qs → vs ≡ ws
   firsts-unique ps [] [] qs f g = refl
   firsts-unique ps [] (w ∷ ws) [] f g = absurd g
   firsts-unique ps [] (w ∷ ws) (q ∷ qs) f g = absurd f

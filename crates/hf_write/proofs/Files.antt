@@ -21,12 +21,15 @@ use Rattle.hf_info.specs.Iinf.{iinf_body}
 use Rattle.hf_loc.specs.Iloc.{offset_width, iloc_entry, entry_text, iloc_version, iloc_body}
 use Rattle.hf_prop.specs.Iprp.{iprp_body}
 use Rattle.hf_store.specs.Layout.{own, is_wide, has_bytes, with_bytes, in_idat, bytes_in, info_of, infos_of, iprp_of, entry_of, entries_of, mdat_body, mdat_offset, idat_offset, offset_of, box_if_any, meta_front, meta_body, laid}
+use Rattle.hf_store.specs.Counts.{counts_of}
+use Rattle.hf_store.specs.declared.tally.Counts.{Counts}
 use Rattle.hf_store.specs.Valid.{body_sum, IsGoodItem, Valid}
 use Rattle.hf_store.specs.Plain.{IsPlainItem, ArePlain, IsPlain}
 use Rattle.hf_store.proofs.BoxLengths.{length-box, box_len-le, le-box_len}
+use Rattle.hf_store.proofs.CountsAre.{counts_are}
 use Rattle.hf_store.proofs.Lengths.{meta_body_len, length-meta_body, length-iloc_body}
 use Rattle.hf_store.proofs.PlainLengths.{not_in_idat, no_references, none_in_idat, length-iinf_body, front_len, length-meta_front}
-use Rattle.hf_store.proofs.Removals.{body_sum-cons}
+use Rattle.hf_store.proofs.Bodies.{body_sum-cons}
 use Rattle.hf_store.proofs.Spots.{holds_here, id_here, get_map, some_is}
 use Rattle.hf_plan.specs.Plan.{start_of, sizes_of, Planned, IsPlan}
 use Rattle.hf_plan.proofs.Bounds.{ids_below, in_below, count_fits, file_len-bound}
@@ -54,6 +57,10 @@ infe_few s wide k i valid plain here =
 
 pub located_fit : (s : ItemStore) (wide : Bool) → Valid s → wide ≡ is_wide s.items → length (with_bytes s.items) < 256 ^ id_width wide
 located_fit s wide valid e = omega (arith, items_fit s wide valid e, located-le s.items)
+
+-- how many items have bytes, as it is counted
+pub located_is : (s : ItemStore) (c : Counts) → c ≡ counts_of s → c.located ≡ length (with_bytes s.items)
+located_is s c e = ap (λ (k : Counts). k.located) e ∙ (counts_are s).located
 
 -- ---- sizes
 

@@ -1,13 +1,12 @@
 -- The store of the tests.
-use Rattle.std.proofs.Common.{◌≡◌, ℕ, List, [], ◌∷◌, refl, sym, ap, ◌∙◌, arith}
-use Rattle.hf_box.specs.Literals.{four, hex_of}
-use Rattle.hf_pieces.specs.Bytes.{joined}
+use Rattle.std.proofs.Common.{◌≡◌, List, [], ◌∷◌, refl, sym, ap, ◌∙◌, arith}
+use Rattle.hf_box.specs.Literals.{hex_of}
 use Rattle.hf_store.specs.Store.{Item as Stated, ItemStore}
 use Rattle.hf_store.specs.WorkedStores.{heic, plain, two_pictures}
 use Rattle.hf_store.specs.Derived.{input_pairs}
 use Rattle.hf_store.specs.Valid.{Valid}
 use Rattle.hf_store.specs.Plain.{IsPlain}
-use Rattle.hf_store.specs.Seen.{items_of}
+use Rattle.hf_store.specs.Seen.{item_of, items_of}
 use Rattle.hf_store.specs.declared.item.Item.{Item}
 use Rattle.hf_store.proofs.Ends.{ends}
 use Rattle.hf_store.proofs.Finds.{found}
@@ -35,9 +34,9 @@ unfolding two_pictures
 plain_two_pictures = search arith
 
 -- the parts that the test has are this store
-pub two_made : (items : List Item) (first second : List (List ℕ)) → items ≡ record { id = 1; kind = four "hvc1"; body = first } ∷ record { id = 2; kind = four "hvc1"; body = second } ∷ []
-    → joined first ≡ hex_of "aabbcc" → joined second ≡ hex_of "dd" → two_pictures ≡ record { brands = heic; primary = 1; items = items_of items; groups = [] }
+pub two_made : (items : List Item) (first second : Item) → items ≡ first ∷ second ∷ [] → item_of first ≡ plain 1 "hvc1" (hex_of "aabbcc") → item_of second ≡ plain 2 "hvc1" (hex_of "dd")
+    → two_pictures ≡ record { brands = heic; primary = 1; items = items_of items; groups = [] }
 unfolding two_pictures
-two_made items first second e f g =
+two_made items first second are one two =
     let made : List Stated → ItemStore = λ is. record { brands = heic; primary = 1; items = is; groups = [] } in
-    sym (ap (λ (is : List Item). made (items_of is)) e ∙ ap (λ (b : List ℕ). made (plain 1 "hvc1" b ∷ plain 2 "hvc1" (joined second) ∷ [])) f ∙ ap (λ (b : List ℕ). made (plain 1 "hvc1" (hex_of "aabbcc") ∷ plain 2 "hvc1" b ∷ [])) g)
+    sym (ap (λ (is : List Item). made (items_of is)) are ∙ ap (λ (i : Stated). made (i ∷ item_of second ∷ [])) one ∙ ap (λ (i : Stated). made (plain 1 "hvc1" (hex_of "aabbcc") ∷ i ∷ [])) two)

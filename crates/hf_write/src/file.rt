@@ -5,6 +5,7 @@ ghost use Rattle.hf_box.specs.Head.{box};
 ghost use Rattle.hf_box.specs.Literals.{four};
 ghost use Rattle.hf_desk.specs.Calls.{Puts};
 ghost use Rattle.hf_store.specs.Layout.{own, meta_body};
+ghost use Rattle.hf_store.specs.Plain.{IsPlain};
 ghost use Rattle.hf_plan.specs.Canon.{Canon};
 ghost use Rattle.hf_loc.specs.Iloc.{offset_width};
 ghost use Rattle.hf_plan.specs.Plan.{IsPlan};
@@ -25,9 +26,10 @@ use hf_store::Store;
 fn put_meta_front<D: Desk>(store: &Store<'_>, plan: &Plan, desk: &mut D) -> Result<(), WriteFault>
     requires creating { (D.outside desk.old).creating ≡ true }
     requires plan { IsPlan store.now plan.now }
+    requires plain { IsPlain store.now }
     ensures { Puts (D.outside desk.old) (meta_begin store.now plan.now) result (D.outside desk.new) }
 {
-    store.valid_and_plain();
+    store.valid();
     let ids = plan.wide();
     let id = store.primary();
     put_header(META, body_of(plan.sizes().meta), desk)?;
@@ -40,6 +42,7 @@ fn put_meta_front<D: Desk>(store: &Store<'_>, plan: &Plan, desk: &mut D) -> Resu
 fn put_meta_rest<D: Desk>(store: &Store<'_>, plan: &Plan, desk: &mut D) -> Result<(), WriteFault>
     requires creating { (D.outside desk.old).creating ≡ true }
     requires plan { IsPlan store.now plan.now }
+    requires plain { IsPlain store.now }
     ensures { Puts (D.outside desk.old) (meta_end store.now plan.now) result (D.outside desk.new) }
 {
     let ids = plan.wide();
@@ -52,9 +55,10 @@ fn put_meta_rest<D: Desk>(store: &Store<'_>, plan: &Plan, desk: &mut D) -> Resul
 fn put_meta<D: Desk>(store: &Store<'_>, plan: &Plan, desk: &mut D) -> Result<(), WriteFault>
     requires creating { (D.outside desk.old).creating ≡ true }
     requires plan { IsPlan store.now plan.now }
+    requires plain { IsPlain store.now }
     ensures { Puts (D.outside desk.old) (box (four "meta") (meta_body own (offset_width plan.now.long) plan.now.total store.now)) result (D.outside desk.new) }
 {
-    store.valid_and_plain();
+    store.valid();
     put_meta_front(store, plan, desk)?;
     put_meta_rest(store, plan, desk)
 }
@@ -65,9 +69,10 @@ fn put_meta<D: Desk>(store: &Store<'_>, plan: &Plan, desk: &mut D) -> Result<(),
 pub fn write<D: Desk>(store: &Store<'_>, plan: &Plan, desk: &mut D) -> Result<(), WriteFault>
     requires creating { (D.outside desk.old).creating ≡ true }
     requires plan { IsPlan store.now plan.now }
+    requires plain { IsPlain store.now }
     ensures { (file : List ℕ) → Canon store.now file → Puts (D.outside desk.old) file result (D.outside desk.new) }
 {
-    store.valid_and_plain();
+    store.valid();
     put_ftyp(&store.brands(), desk)?;
     put_meta(store, plan, desk)?;
     put_mdat(store, plan, desk)

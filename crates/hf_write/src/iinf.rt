@@ -13,6 +13,7 @@ ghost use Rattle.hf_desk.specs.Pages.{ByPut, Gives};
 ghost use Rattle.hf_info.specs.Infe.{info_of as shown, infe_box};
 ghost use Rattle.hf_info.specs.Iinf.{iinf_body};
 ghost use Rattle.hf_store.specs.Layout.{is_wide, info_of, infos_of};
+ghost use Rattle.hf_store.specs.Plain.{IsPlain};
 ghost use Rattle.hf_store.specs.Seen.{item_of};
 ghost use Rattle.hf_plan.specs.Plan.{IsPlan};
 
@@ -25,17 +26,17 @@ use hf_plan::Plan;
 use hf_store::{Item, Store};
 
 /// What the entry of an item says.
-fn info_in(item: &Item<'_>) -> Info<'static>
+fn info_in<'a>(item: &Item<'a>) -> Info<'a>
     ensures { shown result ≡ info_of (item_of item.now) }
 {
     Info {
         id: item.id,
         kind: item.kind,
-        hidden: false,
-        name: &[],
-        content: &[],
-        encoding: &[],
-        uri: &[],
+        hidden: item.hidden,
+        name: item.name,
+        content: item.content,
+        encoding: item.encoding,
+        uri: item.uri,
     }
 }
 
@@ -48,6 +49,7 @@ fn give_infes<D: Desk>(
 ) -> Result<(), WriteFault>
     requires creating { (D.outside desk.old).creating ≡ true }
     requires wide { wide ≡ is_wide store.now.items }
+    requires plain { IsPlain store.now }
     ensures { Gives ByPut (D.outside desk.old) page.old (flat_map (infe_box wide) (infos_of store.now.items)) result (D.outside desk.new) page.new }
 {
     for i in 0..store.len() {
@@ -61,6 +63,7 @@ fn give_infes<D: Desk>(
 fn put_infes<D: Desk>(store: &Store<'_>, wide: bool, desk: &mut D) -> Result<(), WriteFault>
     requires creating { (D.outside desk.old).creating ≡ true }
     requires wide { wide ≡ is_wide store.now.items }
+    requires plain { IsPlain store.now }
     ensures { Puts (D.outside desk.old) (flat_map (infe_box wide) (infos_of store.now.items)) result (D.outside desk.new) }
 {
     let mut page = Page::new();
@@ -109,6 +112,7 @@ pub(crate) fn put_iinf<D: Desk>(
 ) -> Result<(), WriteFault>
     requires creating { (D.outside desk.old).creating ≡ true }
     requires plan { IsPlan store.now plan.now }
+    requires plain { IsPlain store.now }
     ensures { Puts (D.outside desk.old) (box (four "iinf") (iinf_body (is_wide store.now.items) (infos_of store.now.items))) result (D.outside desk.new) }
 {
     let count = store.len() as u64;

@@ -12,6 +12,7 @@ ghost use Rattle.hf_desk.specs.Calls.{Puts};
 ghost use Rattle.hf_desk.specs.Pages.{ByPut, Gives};
 ghost use Rattle.hf_loc.specs.Iloc.{offset_width, iloc_version, iloc_body};
 ghost use Rattle.hf_store.specs.Layout.{own, entries_of};
+ghost use Rattle.hf_store.specs.Plain.{IsPlain};
 ghost use Rattle.hf_store.specs.Store.{Item as Stated};
 ghost use Rattle.hf_plan.specs.Plan.{IsPlan};
 ghost use Rattle.hf_write.specs.Entries.{planned_entry};
@@ -21,7 +22,7 @@ use hf_base::be_put;
 use hf_base::kinds::ILOC;
 use hf_desk::{Desk, Page, Put, WriteFault, put_all};
 use hf_loc::give_entry;
-use hf_plan::{Plan, located_count};
+use hf_plan::Plan;
 use hf_store::Store;
 
 /// Gives the entry of the item at a place to a page; one without bytes has none.
@@ -34,10 +35,11 @@ fn give_planned<D: Desk>(
 ) -> Result<(), WriteFault>
     requires creating { (D.outside desk.old).creating ≡ true }
     requires plan { IsPlan store.now plan.now }
+    requires plain { IsPlain store.now }
     requires place { i < length store.now.items }
     ensures { (item : Stated) → slice_get store.now.items i ≡ Some item → Gives ByPut (D.outside desk.old) page.old (planned_entry store.now plan.now item) result (D.outside desk.new) page.new }
 {
-    store.valid_and_plain();
+    store.valid();
     let item = store.at(i);
     let wide = plan.wide();
     let long = plan.long();
@@ -59,6 +61,7 @@ fn give_entries<D: Desk>(
 ) -> Result<(), WriteFault>
     requires creating { (D.outside desk.old).creating ≡ true }
     requires plan { IsPlan store.now plan.now }
+    requires plain { IsPlain store.now }
     ensures { Gives ByPut (D.outside desk.old) page.old (flat_map (planned_entry store.now plan.now) store.now.items) result (D.outside desk.new) page.new }
 {
     for i in 0..store.len() {
@@ -71,6 +74,7 @@ fn give_entries<D: Desk>(
 fn put_entries<D: Desk>(store: &Store<'_>, plan: &Plan, desk: &mut D) -> Result<(), WriteFault>
     requires creating { (D.outside desk.old).creating ≡ true }
     requires plan { IsPlan store.now plan.now }
+    requires plain { IsPlain store.now }
     ensures { Puts (D.outside desk.old) (flat_map (planned_entry store.now plan.now) store.now.items) result (D.outside desk.new) }
 {
     let mut page = Page::new();
@@ -131,11 +135,13 @@ pub(crate) fn put_iloc<D: Desk>(
 ) -> Result<(), WriteFault>
     requires creating { (D.outside desk.old).creating ≡ true }
     requires plan { IsPlan store.now plan.now }
+    requires plain { IsPlain store.now }
     ensures { Puts (D.outside desk.old)
         (box (four "iloc") (iloc_body plan.now.wide (offset_width plan.now.long) (entries_of own plan.now.total store.now.items)))
         result (D.outside desk.new) }
 {
-    let count = located_count(store);
+    store.valid();
+    let count = store.counts().located;
     let ids = plan.wide();
     let offsets = plan.long();
     put_header(ILOC, body_of(plan.sizes().iloc), desk)?;

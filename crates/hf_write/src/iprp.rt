@@ -7,6 +7,7 @@ ghost use Rattle.hf_box.specs.Written.{id_version};
 ghost use Rattle.hf_desk.specs.Calls.{Puts};
 ghost use Rattle.hf_prop.specs.Iprp.{iprp_body};
 ghost use Rattle.hf_store.specs.Layout.{iprp_of};
+ghost use Rattle.hf_store.specs.Plain.{IsPlain};
 ghost use Rattle.hf_write.specs.Entries.{empty_bytes};
 
 use hf_base::be_put;
@@ -43,8 +44,8 @@ pub(crate) fn put_iprp<D: Desk>(
     desk: &mut D,
 ) -> Result<(), WriteFault>
     requires creating { (D.outside desk.old).creating ≡ true }
+    requires plain { IsPlain store.now }
     ensures { Puts (D.outside desk.old) (box (four "iprp") (iprp_body wide (iprp_of store.now))) result (D.outside desk.new) }
 {
-    store.valid_and_plain();
     put_all(desk, &empty_iprp(version_of(wide)))
 }

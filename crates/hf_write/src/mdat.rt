@@ -7,6 +7,7 @@ ghost use Rattle.hf_box.specs.Literals.{four};
 ghost use Rattle.hf_desk.specs.Calls.{Puts};
 ghost use Rattle.hf_pieces.specs.Bytes.{joined};
 ghost use Rattle.hf_store.specs.Layout.{own, mdat_body};
+ghost use Rattle.hf_store.specs.Plain.{IsPlain};
 ghost use Rattle.hf_plan.specs.Plan.{IsPlan};
 ghost use Rattle.hf_write.specs.Entries.{bytes_of};
 
@@ -47,9 +48,10 @@ pub(crate) fn put_mdat<D: Desk>(
 ) -> Result<(), WriteFault>
     requires creating { (D.outside desk.old).creating ≡ true }
     requires plan { IsPlan store.now plan.now }
+    requires plain { IsPlain store.now }
     ensures { Puts (D.outside desk.old) (box (four "mdat") (mdat_body own store.now.items)) result (D.outside desk.new) }
 {
-    store.valid_and_plain();
+    store.valid();
     put_header(MDAT, body_of(plan.sizes().mdat), desk)?;
     put_bodies(store, desk)
 }

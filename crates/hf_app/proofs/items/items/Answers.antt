@@ -13,7 +13,7 @@ loop-info-preserved c = λ locs finds.
     let infos = c.args.infos.now in
     let i = c.loop-info.info-index in
     let one = c.in_ok-item.field-0 in
-    let pushed : items_of c.push.new.self.items ≡ items_of c.loop-info.items.items ++ item_of one ∷ [] = rw c.in_ok-push.ensures.items (map_push item_of c.loop-info.items.items one) in
+    let pushed : items_of c.push.new.self ≡ items_of c.loop-info.items ++ item_of one ∷ [] = rw c.in_ok-push.ensures.pushed (map_push item_of c.loop-info.items one) in
     let more = map_more info_of infos i no_info c.loop-info-test.true in
     pushed ∙ ap (λ (l : List Item). l ++ item_of one ∷ []) (c.loop-info.invariant locs finds)
     ∙ ap (λ (x : Item). items_at F locs (infos_of (take i infos)) ++ x ∷ []) (c.in_ok-item.ensures locs finds)

@@ -7,4 +7,4 @@ use Rattle.hf_app.specs.Places.{Finds}
 use Rattle.hf_app.proofs.items.items.Given as goal
 
 abbrev pub invariant-loop-info : goal.invariant-loop-info
-invariant-loop-info l = (locs : List Loc) → Finds l.places locs → items_of l.items.items ≡ items_at l.file locs (infos_of (take l.info-index l.infos))
+invariant-loop-info l = (locs : List Loc) → Finds l.places locs → items_of l.items ≡ items_at l.file locs (infos_of (take l.info-index l.infos))

@@ -10,7 +10,7 @@ use Rattle.hf_write.proofs.iinf.give_infes.Goals as goal
 
 pub give_infe-requires-clause-size : goal.give_infe-requires-clause-size
 give_infe-requires-clause-size g c =
-    rw c.info_in-info.ensures (infe_few c.args.store.now c.args.wide c.loop-i.i (item_of c.at.result.now) c.len-i-end.ensures.valid c.len-i-end.ensures.plain c.at.ensures)
+    rw c.info_in-info.ensures (infe_few c.args.store.now c.args.wide c.loop-i.i (item_of c.at.result.now) c.len-i-end.ensures.valid c.requires.plain c.at.ensures)
 
 pub give_infe-requires-clause-fits : goal.give_infe-requires-clause-fits
 give_infe-requires-clause-fits g c =

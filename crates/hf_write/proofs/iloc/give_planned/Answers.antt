@@ -8,22 +8,22 @@ use Rattle.hf_write.proofs.Files.{id_fits, entry_there, no_entry, entry_whole}
 use Rattle.hf_write.proofs.iloc.give_planned.Goals as goal
 
 pub give_entry-requires-clause-id : goal.give_entry-requires-clause-id
-give_entry-requires-clause-id g c = id_fits c.args.store.now _ c.args.i (item_of c.at-item.result.now) c.valid_and_plain.ensures.valid (c.wide-wide.ensures ∙ c.requires.plan.wide) c.at-item.ensures
+give_entry-requires-clause-id g c = id_fits c.args.store.now _ c.args.i (item_of c.at-item.result.now) c.valid.ensures (c.wide-wide.ensures ∙ c.requires.plan.wide) c.at-item.ensures
 
 pub give_entry-requires-clause-offset : goal.give_entry-requires-clause-offset
 give_entry-requires-clause-offset g c =
-    let entry = entry_there c.args.store.now c.args.plan.now c.args.i (item_of c.at-item.result.now) c.in-Some.offset c.valid_and_plain.ensures.valid c.valid_and_plain.ensures.plain c.requires.plan c.at-item.ensures c.in-Some.ensures in
+    let entry = entry_there c.args.store.now c.args.plan.now c.args.i (item_of c.at-item.result.now) c.in-Some.offset c.valid.ensures c.requires.plain c.requires.plan c.at-item.ensures c.in-Some.ensures in
     rw c.long-long.ensures entry.offset
 
 pub give_entry-requires-clause-length : goal.give_entry-requires-clause-length
 give_entry-requires-clause-length g c =
-    let entry = entry_there c.args.store.now c.args.plan.now c.args.i (item_of c.at-item.result.now) c.in-Some.offset c.valid_and_plain.ensures.valid c.valid_and_plain.ensures.plain c.requires.plan c.at-item.ensures c.in-Some.ensures in
+    let entry = entry_there c.args.store.now c.args.plan.now c.args.i (item_of c.at-item.result.now) c.in-Some.offset c.valid.ensures c.requires.plain c.requires.plan c.at-item.ensures c.in-Some.ensures in
     rw (c.long-long.ensures, c.len-len.ensures.count) entry.len
 
 pub returns-in-Some : goal.returns-in-Some
 returns-in-Some g c = λ item e.
     let i = item_of c.at-item.result.now in
-    let entry = entry_there c.args.store.now c.args.plan.now c.args.i i c.in-Some.offset c.valid_and_plain.ensures.valid c.valid_and_plain.ensures.plain c.requires.plan c.at-item.ensures c.in-Some.ensures in
+    let entry = entry_there c.args.store.now c.args.plan.now c.args.i i c.in-Some.offset c.valid.ensures c.requires.plain c.requires.plan c.at-item.ensures c.in-Some.ensures in
     let same : planned_entry c.args.store.now c.args.plan.now i ≡ planned_entry c.args.store.now c.args.plan.now item = ap (planned_entry c.args.store.now c.args.plan.now) (some_is (sym c.at-item.ensures ∙ e)) in
     gives_as (entry_whole c.args.store.now c.args.plan.now i _ _ c.in-Some.offset _ entry c.wide-wide.ensures c.long-long.ensures c.len-len.ensures.count ∙ same) c.give_entry.ensures
 
