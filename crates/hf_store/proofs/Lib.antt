@@ -1,6 +1,7 @@
 pub mod BareLengths
 pub mod BoxLengths
 pub mod Capped
+pub mod Swapped
 pub mod Counted
 pub mod CountsAre
 pub mod Cuts

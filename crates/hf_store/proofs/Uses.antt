@@ -21,7 +21,7 @@ use Rattle.hf_store.proofs.CutTables.{IsLess, without_some}
 use Rattle.hf_store.proofs.Mapped.{here_at}
 use Rattle.hf_store.proofs.Spots.{at_or, within_at, drop_here, holds_here}
 
-all-mapped : (is : List Item) → all_props (map props_of is) ≡ flat_map props_of is
+pub all-mapped : (is : List Item) → all_props (map props_of is) ≡ flat_map props_of is
 all-mapped [] = refl
 all-mapped (i ∷ is) = ap (λ ps. props_of i ++ ps) (all-mapped is)
 
