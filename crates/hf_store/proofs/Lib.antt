@@ -18,6 +18,7 @@ pub mod KeptLimits
 pub mod LaidFiles
 pub mod LargeStores
 pub mod Lengths
+pub mod Listed
 pub mod Mapped
 pub mod References
 pub mod Needers

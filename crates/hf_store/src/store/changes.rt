@@ -1,16 +1,18 @@
 //! Changes of a store.
 
 ghost use Rattle.std.specs.Prelude.{◌≡◌, ◌<◌, length, not, OnOk, OnErr};
-ghost use Rattle.hf_store.specs.Changes.{id_at, removed, with_hidden, with_primary, with_props, without_props};
+ghost use Rattle.std.specs.List.Sorted.{IsStrictlyIncreasing};
+ghost use Rattle.hf_store.specs.Changes.{id_at, kept_only, removed, with_hidden, with_primary, with_props, without_props};
 ghost use Rattle.hf_store.specs.Valid.{Valid};
-ghost use Rattle.hf_table.specs.Held.{is_of};
+ghost use Rattle.hf_table.specs.Held.{is_among, is_of};
 
 use crate::cutting::{Links, Stays, cut_groups, cut_items};
-use crate::item::Props;
+use crate::item::{Item, Props};
 use crate::store::Store;
-use crate::tally::{Counts, count_groups, count_item};
-use hf_base::{FourCc, NoMemory, Series};
+use crate::tally::{Counts, count_groups, count_item, count_items};
+use hf_base::{FourCc, Ids, NoMemory, Series};
 use hf_prop::Held;
+use hf_table::is_listed;
 use std::mem;
 
 /// Counts with those of references and groups put in.
@@ -79,6 +81,25 @@ impl<'a> Store<'a> {
         let _old = mem::replace(&mut item.props, Series::from_vec(props)).into_vec();
         self.counts = left.plus(count_item(item));
         Ok(())
+    }
+
+    /// Keeps the items whose ids are listed, which rise; the others go as by `remove`.
+    pub fn keep_only(&mut self, keep: &Ids)
+        requires rises { IsStrictlyIncreasing keep.now }
+        requires valid { Valid (kept_only keep.now self.old) }
+        ensures { self.new ≡ kept_only keep.now self.old }
+    {
+        let ids = keep.as_slice();
+        self.uses.take_others(&self.items, ids);
+        self.items.retain(
+            |item: &Item| -> bool
+                ensures { IsStrictlyIncreasing ids.entry.now → result ≡ is_among ids.entry.now item.now.id }
+            { is_listed(ids, item.id) },
+        );
+        let stays = Stays::Listed(ids);
+        let _links = cut_items(&mut self.items, &stays);
+        cut_groups(&mut self.groups, &stays);
+        self.counts = count_items(&self.items).plus(count_groups(&self.groups));
     }
 
     /// Takes the item at a place out, counted from 0 by rising id, and its id from all references and
