@@ -23,6 +23,7 @@ pub mod Mapped
 pub mod References
 pub mod Needers
 pub mod PlainLengths
+pub mod Pushed
 pub mod Reasons
 pub mod RefusedStores
 pub mod Removals

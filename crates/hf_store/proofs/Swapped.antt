@@ -31,7 +31,7 @@ changed_is f [] k x here = absurd cc
 changed_is f (y ∷ ys) zero x here = ap (λ z. f z ∷ ys) (sym (some_is here))
 changed_is f (y ∷ ys) (suc k) x here = ap (λ zs. y ∷ zs) (changed_is f ys k x here)
 
-plus-right : (a b : Counts) → capped_counts (plus a (capped_counts b)) ≡ capped_counts (plus a b)
+pub plus-right : (a b : Counts) → capped_counts (plus a (capped_counts b)) ≡ capped_counts (plus a b)
 plus-right a b = λ j. record {
   items = right a.items b.items j;
   located = right a.located b.located j;
@@ -51,7 +51,7 @@ plus-right a b = λ j. record {
     right : (m n : ℕ) → capped (m + capped n) ≡ capped (m + n)
     right m n = omega arith
 
-short_all : (all is : List Item) → AllByRecursion (IsGoodItem all) is → AllByRecursion (λ (ps : List Prop). length ps ≤ limits.PROPS) (map props_of is)
+pub short_all : (all is : List Item) → AllByRecursion (IsGoodItem all) is → AllByRecursion (λ (ps : List Prop). length ps ≤ limits.PROPS) (map props_of is)
 short_all all [] good = tt
 short_all all (i ∷ is) good = (omega (arith, good.0.props, length-map i.props (λ (h : Held). h.prop)), short_all all is good.1)
 

@@ -2,7 +2,8 @@
 
 ghost use Rattle.std.specs.Prelude.{◌≡◌, ◌<◌, length, not, OnOk, OnErr};
 ghost use Rattle.std.specs.List.Sorted.{IsStrictlyIncreasing};
-ghost use Rattle.hf_store.specs.Changes.{id_at, kept_only, removed, with_hidden, with_primary, with_props, without_props};
+ghost use Rattle.hf_store.specs.Changes.{added, id_at, kept_only, removed, with_hidden, with_primary, with_props, without_props};
+ghost use Rattle.hf_store.specs.Seen.{item_of};
 ghost use Rattle.hf_store.specs.Valid.{Valid};
 ghost use Rattle.hf_table.specs.Held.{is_among, is_of};
 
@@ -80,6 +81,21 @@ impl<'a> Store<'a> {
         let left = self.counts.minus(count_item(item));
         let _old = mem::replace(&mut item.props, Series::from_vec(props)).into_vec();
         self.counts = left.plus(count_item(item));
+        Ok(())
+    }
+
+    /// One more item, behind the others; it is spent in every case. After `NoMemory` the store is as
+    /// before.
+    pub fn add(&mut self, item: Item<'a>) -> Result<(), NoMemory>
+        requires { Valid (added (item_of item) self.old) }
+        ensures added { OnOk result (self.new ≡ added (item_of item.entry) self.old) }
+        ensures unchanged { OnErr result (self.new ≡ self.old) }
+    {
+        let _bytes = self.uses.bytes();
+        self.items.reserve(1)?;
+        self.uses.add_all(item.props.as_slice())?;
+        self.counts = self.counts.plus(count_item(&item));
+        self.items.push(item)?;
         Ok(())
     }
 
