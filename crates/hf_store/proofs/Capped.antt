@@ -1,10 +1,8 @@
 -- Numbers that are capped add up.
-use Rattle.std.proofs.Common.{◌≡◌, ℕ, zero, suc, ◌+◌, ◌*◌, ◌-◌, ◌^◌, ◌<◌, ◌≤◌, refl, ap, ◌∙◌, sym, arith, inl, inr}
+use Rattle.std.proofs.Common.{◌≡◌, ℕ, zero, suc, ◌+◌, ◌*◌, ◌-◌, ◌^◌, ◌≤◌, ap, ◌∙◌, arith, inl, inr}
 use Rattle.std.proofs.lemmas.Bool.{cases_lt}
-use Rattle.hf_box.specs.Head.{box_len}
 use Rattle.hf_store.specs.Capped.{capped, capped_counts}
 use Rattle.hf_store.specs.Counts.{Counts, plus}
-use Rattle.hf_store.proofs.BoxLengths.{box_len-cases, box_len-short, le-box_len}
 
 pub capped-add : (m n : ℕ) → capped (capped m + capped n) ≡ capped (m + n)
 capped-add m n = omega arith

@@ -1,10 +1,10 @@
 -- The counts of lists and stores add up.
-use Rattle.std.proofs.Common.{◌≡◌, ℕ, zero, suc, ◌+◌, ◌<◌, ◌≤◌, List, [], ◌∷◌, ◌++◌, length, map, take, set, refl, sym, ap, ◌∙◌, arith, Some}
+use Rattle.std.proofs.Common.{◌≡◌, ℕ, ◌+◌, ◌≤◌, List, [], ◌∷◌, ◌++◌, length, map, take, set, refl, sym, ap, ◌∙◌, arith, Some}
 use Rattle.std.specs.Prelude.{slice_get}
 use Rattle.std.specs.List.{sum_by, remove, insert}
 use Rattle.std.proofs.lemmas.List.Sums.{sum_by-cons, sum_by-append, sum_by-remove, sum_by-insert, sum_by-set, sum_by_more}
 use Rattle.std.proofs.lemmas.List.{take_all}
-use Rattle.hf_store.specs.Store.{Item, Group, ItemStore}
+use Rattle.hf_store.specs.Store.{Item}
 use Rattle.hf_store.specs.Counts.{Counts, no_counts, plus, summed, counts_of_item, counts_of_group, counts_of_items, counts_of_groups, counts_of, counts_before, ItemGoes, ItemComes, ItemChanges, GroupGoes, GroupComes, GroupChanges}
 use Rattle.hf_store.proofs.Spots.{at_or, within_at}
 

@@ -1,17 +1,17 @@
 -- What the counts of a store are of its layout.
-use Rattle.std.proofs.Common.{◌≡◌, ℕ, zero, suc, ◌+◌, ◌^◌, ◌<◌, ◌≤◌, Bool, true, false, not, ◌&&◌, ◌||◌, cond, leb, ltb, List, [], ◌∷◌, length, length-append, map, refl, sym, ap, ◌∙◌, arith, inl, inr}
+use Rattle.std.proofs.Common.{◌≡◌, ℕ, ◌+◌, ◌^◌, Bool, true, false, not, ◌&&◌, ◌||◌, cond, leb, ltb, List, [], ◌∷◌, length, length-append, refl, sym, ap, ◌∙◌, arith, inl, inr}
 use Rattle.std.specs.Prelude.{◌==◌}
 use Rattle.std.specs.List.{sum_by, flat_map, filter}
-use Rattle.std.proofs.lemmas.Bool.{cases_Bool, and_from, eq-eqb, le-leb, lt-leb, lt-ltb}
+use Rattle.std.proofs.lemmas.Bool.{cases_Bool, and_from, eq-eqb, lt-ltb}
 use Rattle.std.proofs.lemmas.List.{length-map}
 use Rattle.std.proofs.lemmas.List.Concat.{length-flat_map}
 use Rattle.std.proofs.lemmas.List.Sums.{sum_by-cons}
 use Rattle.hf_box.specs.Written.{bit}
-use Rattle.hf_store.specs.Store.{RefList, Item, Group, ItemStore}
-use Rattle.hf_store.specs.Layout.{own, is_wide, all_boxes, item_boxes, has_bytes, has_props, with_bytes, in_idat, is_data_item, bytes_in, idat_body, mdat_body}
+use Rattle.hf_store.specs.Store.{RefList, Item, Group}
+use Rattle.hf_store.specs.Layout.{own, is_wide, all_boxes, item_boxes, has_bytes, has_props, in_idat, is_data_item, bytes_in, mdat_body}
 use Rattle.hf_store.specs.Table.{props_of}
 use Rattle.hf_store.specs.Valid.{body_sum}
-use Rattle.hf_store.specs.Counts.{counts_of, targets_of, AreCounts, CountsAreOfTheLayout}
+use Rattle.hf_store.specs.Counts.{counts_of, CountsAreOfTheLayout}
 
 -- ---- sums
 

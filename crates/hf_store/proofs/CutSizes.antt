@@ -1,16 +1,16 @@
 -- The length of `meta` where some items go.
-use Rattle.std.proofs.Common.{◌≡◌, ℕ, zero, suc, ◌+◌, ◌*◌, ◌^◌, ◌<◌, ◌≤◌, Bool, true, false, cond, ltb, List, [], ◌∷◌, length, refl, sym, ap, ◌∙◌, arith, subst, inl, inr}
+use Rattle.std.proofs.Common.{◌≡◌, ℕ, zero, suc, ◌+◌, ◌*◌, ◌≤◌, Bool, true, false, cond, ltb, [], length, refl, sym, ap, ◌∙◌, arith, subst, inl, inr}
 use Rattle.std.specs.Prelude.{◌==◌}
-use Rattle.std.specs.List.{AllByRecursion, flat_map, sum_by}
+use Rattle.std.specs.List.{AllByRecursion, flat_map}
 use Rattle.std.proofs.Math.Dec.{eqb-suc-zero}
-use Rattle.std.proofs.lemmas.Bool.{cases_Bool, cases_lt, lt-ltb, le-ltb}
+use Rattle.std.proofs.lemmas.Bool.{cases_lt, lt-ltb, le-ltb}
 use Rattle.std.proofs.lemmas.Nat.{mul-le}
 use Rattle.hf_base.specs.declared.limits.TheConstants as limits
 use Rattle.hf_box.specs.Head.{box_len}
 use Rattle.hf_box.specs.Written.{bit, id_width}
 use Rattle.hf_info.specs.Infe.{infe_box}
 use Rattle.hf_links.specs.Grpl.{group_box}
-use Rattle.hf_store.specs.Changes.{cut_item, cut_items, cut_groups, cut}
+use Rattle.hf_store.specs.Changes.{cut_items, cut}
 use Rattle.hf_store.specs.Counts.{Counts, HasCounts, counts_of_item, counts_of_group, counts_of}
 use Rattle.hf_store.specs.Layout.{own, is_wide, info_of}
 use Rattle.hf_store.specs.Sizes.{Inner, inner_of, short_props, short_links, short_groups, short_inner, ipma_size, meta_size_by, IsShortItem, IsShortList, IsShortProp, IsShortGroup}

@@ -1,13 +1,12 @@
 -- The table of properties where some items go.
-use Rattle.std.proofs.Common.{◌≡◌, ℕ, ◌+◌, ◌≤◌, Bool, true, false, cond, List, [], ◌∷◌, ◌++◌, length, refl, sym, ap, ◌∙◌, arith, append_assoc, inl, inr}
-use Rattle.std.specs.Prelude.{fold}
-use Rattle.std.specs.List.{AllByRecursion, flat_map, list_any}
+use Rattle.std.proofs.Common.{ℕ, ◌≤◌, Bool, List, [], ◌∷◌, ◌++◌, length, arith, append_assoc, inl, inr}
+use Rattle.std.specs.List.{flat_map}
 use Rattle.std.proofs.lemmas.Bool.{cases_Bool}
 use Rattle.hf_prop.specs.declared.prop.Prop.{Prop}
-use Rattle.hf_store.specs.Changes.{cut_item, cut_items}
+use Rattle.hf_store.specs.Changes.{cut_items}
 use Rattle.hf_store.specs.Store.{Item}
 use Rattle.hf_store.specs.Table.{props_of}
-use Rattle.hf_table.specs.Table.{same_prop, table, with_prop, prop_size, size_sum}
+use Rattle.hf_table.specs.Table.{table, size_sum}
 use Rattle.hf_table.proofs.Tally.{table-length-more, table-sizes-more}
 
 -- a table that is no longer, with boxes of no more bytes

@@ -1,12 +1,12 @@
 -- What is left of a valid store where items go is valid, where the primary stays and no item that stays loses an input.
-use Rattle.std.proofs.Common.{◌≡◌, ◌≢◌, ℕ, suc, ◌<◌, ◌≤◌, Bool, true, false, not, ◌||◌, cond, List, [], ◌∷◌, length, filter, refl, sym, ap, ◌∙◌, arith, subst, inl, inr, eqb-true, Option, Some, None}
+use Rattle.std.proofs.Common.{◌≡◌, ◌≢◌, ℕ, suc, ◌<◌, ◌≤◌, Bool, true, false, not, ◌||◌, cond, List, [], ◌∷◌, length, filter, refl, ap, ◌∙◌, arith, inl, inr, eqb-true, Option, Some, None}
 use Rattle.std.specs.Prelude.{◌==◌, option_map}
-use Rattle.std.specs.List.{AllByRecursion, list_any, sum_by}
+use Rattle.std.specs.List.{AllByRecursion, list_any}
 use Rattle.std.proofs.lemmas.Bool.{cases_Bool, eq-eqb}
 use Rattle.hf_box.specs.Literals.{four}
 use Rattle.hf_box.specs.Walk.{is_kind}
-use Rattle.hf_store.specs.Changes.{is_need, Needs, is_other, cut_list, cut_refs, cut_item, cut_items, cut, needed_by, why_not_removed, Remove, StepsKeepValidity}
-use Rattle.hf_store.specs.Derived.{inputs, input_pairs, IsEndless}
+use Rattle.hf_store.specs.Changes.{is_other, cut_refs, cut_item, cut_items, cut, needed_by, why_not_removed, Remove, StepsKeepValidity}
+use Rattle.hf_store.specs.Derived.{inputs}
 use Rattle.hf_store.specs.Lists.{IsIn, not_empty}
 use Rattle.hf_store.specs.Store.{RefList, Item, ItemStore, ids_of}
 use Rattle.hf_store.specs.Table.{table_of}
@@ -83,10 +83,10 @@ keeps_inputs : (id : ℕ) (s : ItemStore) → Valid s → needed_by id s.items �
 keeps_inputs id s valid none =
     all_in (λ (i : Item). is_other id i.id ≡ true → inputs (cut_refs (is_other id) i.refs) ≡ inputs i.refs) s.items
     (λ i there other.
-      let at = at_in i s.items there in
-      let good : IsGoodItem s.items i = holds_here (IsGoodItem s.items) s.items at.0 i valid.items at.1 in
-      let nobody = (no_needer_is_told s id).0 none i.id (not-same i.id id other) in
-      inputs_stay id s.items i.refs good.refs (λ r has input leads. nobody (i, r, there, refl, has, first_or _ _ _ input, leads)))
+    let at = at_in i s.items there in
+    let good : IsGoodItem s.items i = holds_here (IsGoodItem s.items) s.items at.0 i valid.items at.1 in
+    let nobody = (no_needer_is_told s id).0 none i.id (not-same i.id id other) in
+    inputs_stay id s.items i.refs good.refs (λ r has input leads. nobody (i, r, there, refl, has, first_or _ _ _ input, leads)))
 
 -- ---- what speaks against a removal
 

@@ -1,23 +1,23 @@
 -- What is counted over a valid store is few.
-use Rattle.std.proofs.Common.{◌≡◌, ℕ, zero, suc, ◌+◌, ◌*◌, ◌^◌, ◌≤◌, Bool, true, false, cond, leb, List, [], ◌∷◌, length, refl, sym, ap, ◌∙◌, arith, subst}
+use Rattle.std.proofs.Common.{◌≡◌, ℕ, zero, suc, ◌+◌, ◌*◌, ◌^◌, ◌≤◌, Bool, cond, leb, List, [], ◌∷◌, length, ap, arith, subst}
 use Rattle.std.specs.Prelude.{◌==◌}
 use Rattle.std.specs.List.{AllByRecursion, sum_by, flat_map}
 use Rattle.std.proofs.Math.Dec.{eqb-suc-zero}
 use Rattle.std.proofs.lemmas.List.Sums.{sum_by-cons}
 use Rattle.hf_base.specs.declared.limits.TheConstants as limits
 use Rattle.hf_box.specs.Head.{box_len}
-use Rattle.hf_box.specs.Written.{bit, id_width}
-use Rattle.hf_store.specs.Capped.{capped, capped_counts}
+use Rattle.hf_box.specs.Written.{bit}
+use Rattle.hf_store.specs.Capped.{capped_counts}
 use Rattle.hf_store.specs.Counts.{Counts, HasCounts, plus, targets_of, counts_of}
 use Rattle.hf_store.specs.Layout.{own, is_wide, has_bytes, has_props}
 use Rattle.hf_store.specs.Sizes.{Inner, inner_of, short_props, short_inner, meta_size_by}
 use Rattle.hf_store.specs.Store.{RefList, Item, ItemStore}
 use Rattle.hf_store.specs.Table.{props_of, table_of}
 use Rattle.hf_table.specs.Table.{table, size_sum}
-use Rattle.hf_store.specs.Valid.{body_sum, meta_len, IsGoodRef, IsGoodItem, Valid}
+use Rattle.hf_store.specs.Valid.{meta_len, IsGoodRef, IsGoodItem, Valid}
 use Rattle.hf_store.proofs.BoxLengths.{le-box_len}
 use Rattle.hf_store.proofs.Capped.{capped-small}
-use Rattle.hf_store.proofs.CountsAre.{counts_are, sum-zero, sum-one, sum-pass}
+use Rattle.hf_store.proofs.CountsAre.{counts_are, sum-zero, sum-pass}
 use Rattle.hf_store.proofs.Cuts.{filter-le}
 use Rattle.hf_store.proofs.ShortSizes.{inner-below, valid_is_short, valid_sizes_are_counted}
 use Rattle.hf_store.proofs.Sizes.{sizes_are_counted}

@@ -1,15 +1,15 @@
 -- What an item more makes of the store and of its counts.
-use Rattle.std.proofs.Common.{◌≡◌, ℕ, ◌+◌, ◌≤◌, List, [], ◌∷◌, ◌++◌, length, map, sym, ap, ◌∙◌, subst, arith}
+use Rattle.std.proofs.Common.{◌≡◌, ◌≤◌, List, [], ◌∷◌, ◌++◌, length, map, sym, ap, ◌∙◌, subst, arith}
 use Rattle.std.specs.List.{AllByRecursion, flat_map}
 use Rattle.std.proofs.lemmas.List.Elements.{All-from_recursion}
-use Rattle.std.proofs.lemmas.List.{length-map, map-append}
+use Rattle.std.proofs.lemmas.List.{length-map}
 use Rattle.hf_base.specs.declared.limits.TheConstants as limits
 use Rattle.hf_store.specs.Capped.{capped_counts}
 use Rattle.hf_store.specs.Changes.{added}
 use Rattle.hf_store.specs.Counts.{Counts, no_counts, plus, counts_of_item, counts_of_items, counts_of_groups, counts_of}
 use Rattle.hf_store.specs.Kept.{IsKept}
 use Rattle.hf_store.specs.Seen.{store_of}
-use Rattle.hf_store.specs.Store.{Prop, Held, Item, ItemStore}
+use Rattle.hf_store.specs.Store.{Prop, Held, Item}
 use Rattle.hf_store.specs.Table.{props_of}
 use Rattle.hf_store.specs.Valid.{IsGoodItem, Valid}
 use Rattle.hf_store.specs.declared.store.Store.TheInside.{Inside}

@@ -1,11 +1,11 @@
 -- Which reasons there are against the removal of an item.
-use Rattle.std.proofs.Common.{◌≡◌, ◌≢◌, ℕ, Bool, true, false, not, ◌&&◌, cond, List, [], ◌∷◌, refl, sym, ap, ◌∙◌, subst, eqb-true, inl, inr, Option, Some, None}
+use Rattle.std.proofs.Common.{◌≡◌, ◌≢◌, ℕ, Bool, true, false, not, List, refl, sym, ap, ◌∙◌, eqb-true, inl, inr, Option, Some}
 use Rattle.std.specs.Prelude.{◌==◌, slice_get, option_map, if◌then◌else◌}
 use Rattle.std.specs.List.{list_any}
 use Rattle.std.proofs.lemmas.Bool.{cases_Bool, eq-eqb}
 use Rattle.hf_store.specs.Lists.{IsIn}
-use Rattle.hf_store.specs.Store.{Item, ItemStore, ids_of}
-use Rattle.hf_store.specs.Changes.{needed_by, id_at, removed, why_not_removed}
+use Rattle.hf_store.specs.Store.{ItemStore, ids_of}
+use Rattle.hf_store.specs.Changes.{needed_by, id_at, why_not_removed}
 use Rattle.hf_store.specs.declared.reason.Reason.{Reason}
 use Rattle.hf_store.specs.declared.reason.Reason.TheVariants.{NoItem, IsPrimary, Needed}
 use Rattle.hf_store.proofs.Finds.{found, finds}

@@ -1,10 +1,10 @@
 -- What is left of a plain store where items go, and of items of which one is taken out.
-use Rattle.std.proofs.Common.{◌≡◌, ◌≢◌, ℕ, zero, suc, ◌+◌, ◌<◌, ◌≤◌, Bool, true, false, not, List, [], ◌∷◌, length, map, filter, refl, sym, ap, ◌∙◌, arith, inl, inr, subst, eqb-true}
+use Rattle.std.proofs.Common.{◌≡◌, ℕ, zero, suc, ◌<◌, ◌≤◌, Bool, true, false, not, List, [], ◌∷◌, length, filter, refl, ap, arith, inl, inr, eqb-true}
 use Rattle.std.specs.Prelude.{◌==◌}
-use Rattle.std.specs.List.{AllByRecursion, remove}
+use Rattle.std.specs.List.{remove}
 use Rattle.std.proofs.lemmas.Bool.{cases_Bool, eq-eqb}
-use Rattle.hf_store.specs.Lists.{RisesFrom, not_empty}
-use Rattle.hf_store.specs.Store.{RefList, Item, Group, ItemStore, ids_of}
+use Rattle.hf_store.specs.Lists.{RisesFrom}
+use Rattle.hf_store.specs.Store.{Item, ItemStore, ids_of}
 use Rattle.hf_store.specs.Plain.{IsPlainItem, ArePlain, IsPlain}
 use Rattle.hf_store.specs.Changes.{id_at, is_other, cut_refs, cut_item, cut_items, cut_groups, cut, Remove, StepsKeepPlain}
 

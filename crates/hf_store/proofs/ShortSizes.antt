@@ -1,9 +1,8 @@
 -- The boxes inside others, where each has a header of eight bytes.
-use Rattle.std.proofs.Common.{◌≡◌, ℕ, zero, suc, ◌+◌, ◌*◌, ◌^◌, ◌<◌, ◌≤◌, Bool, true, false, cond, List, [], ◌∷◌, ◌++◌, length, length-append, map, refl, sym, ap, ◌∙◌, arith, subst}
+use Rattle.std.proofs.Common.{◌≡◌, ℕ, ◌+◌, ◌*◌, ◌^◌, ◌<◌, ◌≤◌, Bool, true, false, cond, List, [], ◌∷◌, ◌++◌, length, length-append, map, refl, sym, ap, ◌∙◌, arith, subst}
 use Rattle.std.specs.Prelude.{◌==◌, fold}
 use Rattle.std.specs.List.{AllByRecursion, sum_by, flat_map, list_any}
 use Rattle.std.proofs.Math.Dec.{eqb-suc-zero}
-use Rattle.std.proofs.lemmas.Bool.{cases_Bool}
 use Rattle.std.proofs.lemmas.List.Sums.{sum_by-cons, sum_by-append}
 use Rattle.hf_base.specs.NumberLaws.{length-num}
 use Rattle.hf_base.specs.declared.limits.TheConstants as limits
@@ -16,10 +15,10 @@ use Rattle.hf_links.specs.Grpl.{group_body, group_box}
 use Rattle.hf_links.specs.Iref.{reference_body, reference_box}
 use Rattle.hf_store.specs.Counts.{strings_of, targets_of, counts_of}
 use Rattle.hf_store.specs.Layout.{own, is_wide, info_of, item_boxes, all_boxes}
-use Rattle.hf_store.specs.Sizes.{Inner, infes_size, links_size, props_size, groups_size, inner_of, short_props, short_infes, short_links, short_groups, short_inner, ipma_size, AreSizes, IsShortItem, IsShortList, IsShortProp, IsShortGroup, InfesAreCounted, LinksAreCounted, PropsAreCounted, GroupsAreCounted, ValidIsShort, ValidSizesAreCounted}
+use Rattle.hf_store.specs.Sizes.{Inner, infes_size, links_size, props_size, groups_size, inner_of, ipma_size, AreSizes, IsShortItem, IsShortList, IsShortProp, IsShortGroup, InfesAreCounted, LinksAreCounted, PropsAreCounted, GroupsAreCounted, ValidIsShort, ValidSizesAreCounted}
 use Rattle.hf_store.specs.Store.{Prop, Held, RefList, Item, Group, ItemStore}
 use Rattle.hf_store.specs.Table.{same_prop, props_of, with_prop, table_of}
-use Rattle.hf_store.specs.Valid.{IsFour, IsGoodRef, IsGoodItem, IsGoodGroup, meta_len, Valid}
+use Rattle.hf_store.specs.Valid.{IsFour, IsGoodRef, IsGoodItem, IsGoodGroup, meta_len}
 use Rattle.hf_store.proofs.BoxLengths.{length-box, box_len-short, le-box_len}
 use Rattle.hf_store.proofs.CountsAre.{counts_are, sum-zero, sum-one}
 use Rattle.hf_store.proofs.FieldLengths.{strings_len, length-infe_body, length-reference_body, length-nums}

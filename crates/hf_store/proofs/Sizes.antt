@@ -1,5 +1,5 @@
 -- The lengths of boxes are those that the counts tell.
-use Rattle.std.proofs.Common.{◌≡◌, ℕ, zero, suc, ◌+◌, ◌*◌, ◌^◌, ◌<◌, ◌≤◌, Bool, true, false, ◌&&◌, cond, ltb, List, [], ◌∷◌, ◌++◌, length, length-append, map, refl, sym, ap, ◌∙◌, arith, inl, inr}
+use Rattle.std.proofs.Common.{◌≡◌, ℕ, ◌+◌, ◌*◌, Bool, true, false, cond, List, [], ◌∷◌, ◌++◌, length, length-append, map, refl, sym, ap, ◌∙◌, arith, inl, inr}
 use Rattle.std.specs.Prelude.{◌==◌}
 use Rattle.std.specs.List.{sum_by, flat_map, filter}
 use Rattle.std.proofs.Math.Dec.{eqb-suc-zero}
@@ -23,10 +23,10 @@ use Rattle.hf_links.specs.Iref.{reference_box, iref_body}
 use Rattle.hf_loc.specs.Iloc.{iloc_body}
 use Rattle.hf_prop.specs.Ipma.{ipma_entry, ipma_body}
 use Rattle.hf_prop.specs.Iprp.{is_long_table, ipco_body, iprp_body}
-use Rattle.hf_store.specs.Counts.{Counts, counts_of}
-use Rattle.hf_store.specs.Layout.{Homes, own, is_wide, info_of, infos_of, all_boxes, has_bytes, has_props, assoc_of, assocs_of, iprp_of, in_idat, bytes_in, entries_of, with_bytes, box_if_any, mdat_body, meta_body, meta_front, laid}
+use Rattle.hf_store.specs.Counts.{counts_of}
+use Rattle.hf_store.specs.Layout.{Homes, own, is_wide, info_of, infos_of, all_boxes, has_bytes, has_props, assoc_of, assocs_of, iprp_of, in_idat, bytes_in, entries_of, with_bytes, box_if_any, mdat_body, meta_body, laid}
 use Rattle.hf_store.specs.Picks.{pick_of}
-use Rattle.hf_store.specs.Sizes.{infes_size, links_size, props_size, groups_size, inner_of, iinf_size, iref_size, ipco_size, ipma_size, iprp_size, grpl_size, idat_size, iloc_size, meta_size_by, mdat_size, ftyp_size, file_size_by, SizesAreCounted}
+use Rattle.hf_store.specs.Sizes.{infes_size, links_size, props_size, groups_size, inner_of, ipma_size, idat_size, iloc_size, meta_size_by, mdat_size, ftyp_size, file_size_by, SizesAreCounted}
 use Rattle.hf_store.specs.Store.{Prop, Item, Group, ItemStore}
 use Rattle.hf_store.specs.Table.{table_of}
 use Rattle.hf_store.specs.Valid.{IsFour}

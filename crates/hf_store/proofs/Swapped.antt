@@ -1,5 +1,5 @@
 -- What changing an item in the code's list makes of the store and of its counts.
-use Rattle.std.proofs.Common.{◌≡◌, ℕ, zero, suc, ◌+◌, ◌<◌, ◌≤◌, List, [], ◌∷◌, length, map, get_or, set, refl, sym, ap, ◌∙◌, subst, arith, Some}
+use Rattle.std.proofs.Common.{◌≡◌, ℕ, zero, suc, ◌+◌, ◌<◌, ◌≤◌, List, [], ◌∷◌, length, map, get_or, set, sym, ap, ◌∙◌, subst, arith, Some}
 use Rattle.std.specs.Prelude.{slice_get}
 use Rattle.std.specs.List.{AllByRecursion, flat_map}
 use Rattle.std.proofs.lemmas.List.Elements.{All-from_recursion}
@@ -7,7 +7,7 @@ use Rattle.hf_base.specs.declared.limits.TheConstants as limits
 use Rattle.std.proofs.lemmas.List.{length-map, length-set, get_or-set_same, map-set}
 use Rattle.hf_store.specs.Capped.{capped, capped_counts}
 use Rattle.hf_store.specs.Changes.{changed_at}
-use Rattle.hf_store.specs.Counts.{Counts, HasCounts, plus, counts_of_item, counts_of, with_items}
+use Rattle.hf_store.specs.Counts.{Counts, plus, counts_of_item, counts_of, with_items}
 use Rattle.hf_store.specs.Kept.{IsKept}
 use Rattle.hf_store.specs.Seen.{item_of, items_of, store_of}
 use Rattle.hf_store.specs.Store.{Prop, Held, Item, ItemStore}

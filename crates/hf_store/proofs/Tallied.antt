@@ -1,6 +1,5 @@
 -- Sums that go on along a list, capped.
-use Rattle.std.proofs.Common.{◌≡◌, ℕ, ◌+◌, ◌<◌, ◌≤◌, List, [], ◌∷◌, ◌++◌, length, get_or, set, take, map, refl, sym, ap, ◌∙◌, arith, Some}
-use Rattle.std.specs.Prelude.{slice_get}
+use Rattle.std.proofs.Common.{◌≡◌, ℕ, ◌+◌, ◌<◌, ◌≤◌, List, length, get_or, set, take, sym, ap, ◌∙◌, arith}
 use Rattle.std.specs.List.{sum_by}
 use Rattle.std.proofs.lemmas.List.{take_all, take-set, get_or-set_same, length-map, length-set, map-set}
 use Rattle.std.proofs.lemmas.List.Sums.{sum_by_more}
@@ -11,7 +10,7 @@ use Rattle.hf_store.specs.Counts.{Counts, plus, counts_of_item, counts_of_group,
 use Rattle.hf_store.specs.Seen.{item_of, items_of}
 use Rattle.hf_store.specs.Store.{Item as StatedItem}
 use Rattle.hf_store.specs.declared.item.Item.{Item}
-use Rattle.hf_store.proofs.Capped.{capped-add, capped-plus}
+use Rattle.hf_store.proofs.Capped.{capped-plus}
 use Rattle.hf_store.proofs.Counted.{before-next, before-all, summed-next}
 use Rattle.hf_store.proofs.Mapped.{here_at}
 use Rattle.hf_store.proofs.Spots.{get_map}

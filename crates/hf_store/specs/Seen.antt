@@ -1,5 +1,5 @@
 -- What the types of the code stand for.
-use Rattle.std.specs.Prelude.{◌≡◌, List, map}
+use Rattle.std.specs.Prelude.{List, map}
 use Rattle.hf_pieces.specs.Bytes.{joined}
 use Rattle.hf_head.specs.Ftyp.{brands_of}
 use Rattle.hf_links.specs.Grpl.{groups_of}

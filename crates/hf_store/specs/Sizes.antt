@@ -1,5 +1,5 @@
 -- How long the boxes of a canonical file are, told by counts.
-use Rattle.std.specs.Prelude.{◌≡◌, ◌+◌, ◌-◌, ◌*◌, ◌^◌, ◌<◌, ◌≤◌, ◌==◌, ℕ, Bool, List, length, filter, slice_get, Some, nat_lt, if◌then◌else◌}
+use Rattle.std.specs.Prelude.{◌≡◌, ◌+◌, ◌*◌, ◌^◌, ◌<◌, ◌≤◌, ◌==◌, ℕ, Bool, List, length, filter, nat_lt, if◌then◌else◌}
 use Rattle.std.specs.List.{AllByRecursion, sum_by}
 use Rattle.hf_base.specs.declared.limits.TheConstants as limits
 use Rattle.hf_base.specs.declared.loc.RefBox.{RefBox}
@@ -14,10 +14,9 @@ use Rattle.hf_links.specs.Iref.{reference_box, iref_body}
 use Rattle.hf_loc.specs.Iloc.{iloc_body}
 use Rattle.hf_prop.specs.Ipma.{ipma_body}
 use Rattle.hf_prop.specs.Iprp.{is_long_table, ipco_body, iprp_body}
-use Rattle.hf_store.specs.Counts.{Counts, strings_of, counts_of, counts_of_items, counts_before}
-use Rattle.hf_store.specs.Layout.{Homes, own, is_wide, info_of, infos_of, all_boxes, assocs_of, iprp_of, in_idat, bytes_in, entries_of, offset_of, box_if_any, mdat_body, meta_body, laid}
-use Rattle.hf_store.specs.Lists.{RisesFrom}
-use Rattle.hf_store.specs.Store.{Prop, RefList, Item, Group, ItemStore, ids_of}
+use Rattle.hf_store.specs.Counts.{Counts, strings_of, counts_of}
+use Rattle.hf_store.specs.Layout.{Homes, own, is_wide, info_of, infos_of, all_boxes, assocs_of, iprp_of, in_idat, bytes_in, entries_of, box_if_any, mdat_body, meta_body, laid}
+use Rattle.hf_store.specs.Store.{Prop, RefList, Item, Group, ItemStore}
 use Rattle.hf_store.specs.Table.{table_of}
 use Rattle.hf_store.specs.Valid.{IsFour, Valid}
 -- the bytes of the boxes inside `iinf`, `iref`, `ipco` and `grpl`, headers included

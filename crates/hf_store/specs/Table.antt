@@ -1,5 +1,5 @@
 -- The distinct properties of a store, in the order of their first use: the boxes of `ipco` in a canonical file.
-use Rattle.std.specs.Prelude.{List, map}
+use Rattle.std.specs.Prelude.{List}
 use Rattle.std.specs.List.{flat_map}
 use Rattle.hf_table.specs.Held.{props_in}
 use Rattle.hf_table.specs.Table.{table}

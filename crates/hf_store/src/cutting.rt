@@ -119,7 +119,9 @@ pub(crate) fn cut_items(items: &mut Vec<Item<'_>>, stays: &Stays<'_>) -> Links
         let item = &mut items[i];
         cut_item(alloc, item, stays);
         links.lists = links.lists.saturating_add(item.refs.len() as u64);
-        links.targets = links.targets.saturating_add(count_targets(item.refs.as_slice()));
+        links.targets = links
+            .targets
+            .saturating_add(count_targets(item.refs.as_slice()));
     }
     links
 }

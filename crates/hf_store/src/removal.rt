@@ -5,8 +5,8 @@ ghost use Rattle.std.specs.List.{list_any};
 ghost use Rattle.hf_store.specs.Changes.{Remove, is_need, needed_by as needed_by_stated, needs as needs_stated, step, why};
 ghost use Rattle.hf_store.specs.Seen.{item_of};
 
-use crate::{Item, Reason, Store};
 use crate::item::RefList;
+use crate::{Item, Reason, Store};
 use hf_base::FourCc;
 use hf_base::kinds::DIMG;
 

@@ -108,8 +108,6 @@ pub(crate) fn short_inner(wide: bool, props: u64, counts: &Counts) -> Inner
             .saturating_add(counts.strings),
         links: lists.saturating_add(targets),
         props,
-        groups: groups
-            .saturating_add(entities)
-            .saturating_add(counts.tails),
+        groups: groups.saturating_add(entities).saturating_add(counts.tails),
     }
 }

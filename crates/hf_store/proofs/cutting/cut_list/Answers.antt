@@ -1,7 +1,6 @@
 use Rattle.std.proofs.Common.{ap, rules}
 use Rattle.std.proofs.lemmas.Fn.{filter_same}
 use Rattle.hf_store.specs.Stays.{stays_of}
-use Rattle.hf_store.specs.Store.{RefList}
 use Rattle.hf_store.proofs.cutting.cut_list.Goals as goal
 
 pub returns : goal.returns

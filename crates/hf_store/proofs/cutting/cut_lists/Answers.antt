@@ -1,8 +1,8 @@
-use Rattle.std.proofs.Common.{length, ap, sym, ◌∙◌, arith}
+use Rattle.std.proofs.Common.{sym, ◌∙◌, arith}
 use Rattle.std.proofs.lemmas.Grind.{common_steps}
 use Rattle.hf_store.specs.Changes.{cut_list}
 use Rattle.hf_store.specs.Stays.{stays_of}
-use Rattle.hf_store.proofs.Mapped.{mapped-none, plain-next, mapped-all, length-mapped}
+use Rattle.hf_store.proofs.Mapped.{mapped-none, plain-next, mapped-all}
 use Rattle.hf_store.proofs.cutting.cut_lists.Goals as goal
 
 pub loop-i-init : goal.loop-i-init

@@ -1,4 +1,4 @@
-use Rattle.std.proofs.Common.{◌≡◌, ◌+◌, ◌<◌, ◌^◌, ◌≤◌, arith, inl, inr}
+use Rattle.std.proofs.Common.{arith, inl, inr}
 use Rattle.hf_store.proofs.BoxLengths.{box_len-cases}
 use Rattle.hf_store.proofs.size.boxed.Goals as goal
 

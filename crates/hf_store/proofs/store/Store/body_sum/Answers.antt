@@ -1,4 +1,4 @@
-use Rattle.std.proofs.Common.{◌≡◌, ◌+◌, arith, subst, ap, ◌∙◌}
+use Rattle.std.proofs.Common.{◌≡◌, ◌+◌, arith, ap, ◌∙◌}
 use Rattle.hf_store.specs.Counts.{Counts}
 use Rattle.hf_store.specs.Seen.{store_of}
 use Rattle.hf_store.specs.Store.{ItemStore}

@@ -1,4 +1,4 @@
-use Rattle.std.proofs.Common.{◌≡◌, List, set, not, refl, sym, ap, subst, ◌∙◌, rules}
+use Rattle.std.proofs.Common.{◌≡◌, List, set, not, sym, ap, subst, ◌∙◌, rules}
 use Rattle.std.proofs.lemmas.Fn.{filter_same}
 use Rattle.hf_prop.specs.declared.held.Held.{Held}
 use Rattle.hf_store.specs.Changes.{lacking, without_props}

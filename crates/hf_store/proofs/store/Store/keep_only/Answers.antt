@@ -4,9 +4,9 @@ use Rattle.std.specs.List.Sorted.{IsStrictlyIncreasing}
 use Rattle.std.proofs.lemmas.Fn.{filter_same}
 use Rattle.hf_links.specs.Grpl.{groups_of}
 use Rattle.hf_store.specs.Capped.{capped_counts}
-use Rattle.hf_store.specs.Changes.{cut_item, cut_groups, cut, kept_only}
+use Rattle.hf_store.specs.Changes.{cut_item, cut, kept_only}
 use Rattle.hf_store.specs.Counts.{plus, counts_of_items, counts_of_groups, counts_of}
-use Rattle.hf_store.specs.Seen.{item_of, items_of, store_of}
+use Rattle.hf_store.specs.Seen.{items_of, store_of}
 use Rattle.hf_store.specs.Store.{Item, Group, ItemStore}
 use Rattle.hf_store.specs.Table.{props_of}
 use Rattle.hf_store.specs.Valid.{Valid}

@@ -1,4 +1,4 @@
-use Rattle.std.proofs.Common.{◌≡◌, ◌∙◌, ap, length, arith, subst}
+use Rattle.std.proofs.Common.{◌∙◌, ap, length, arith, subst}
 use Rattle.hf_store.specs.Store.{ItemStore}
 use Rattle.hf_store.specs.Table.{table_of}
 use Rattle.hf_store.specs.Valid.{Valid}

@@ -1,5 +1,4 @@
-use Rattle.std.proofs.Common.{◌≡◌, ◌≤◌, ℕ, Bool, length, ltb, sym, ap, ◌∙◌, arith}
-use Rattle.hf_base.specs.declared.limits.TheConstants as limits
+use Rattle.std.proofs.Common.{◌≡◌, ℕ, Bool, length, ltb, sym, ap, ◌∙◌, arith}
 use Rattle.hf_store.specs.Capped.{capped, capped_counts}
 use Rattle.hf_store.specs.Counts.{Counts, counts_of}
 use Rattle.hf_store.specs.Layout.{is_wide}

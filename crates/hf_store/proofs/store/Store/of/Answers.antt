@@ -1,11 +1,11 @@
-use Rattle.std.proofs.Common.{◌≡◌, ◌≤◌, length, sym, ap, subst, ◌∙◌, arith}
+use Rattle.std.proofs.Common.{◌≡◌, ◌≤◌, sym, ap, subst, ◌∙◌}
 use Rattle.std.specs.List.{flat_map}
 use Rattle.hf_base.specs.declared.limits.TheConstants as limits
 use Rattle.hf_head.specs.Ftyp.{brands_of}
 use Rattle.hf_links.specs.Grpl.{groups_of}
 use Rattle.hf_store.specs.Capped.{capped_counts}
 use Rattle.hf_store.specs.Counts.{plus, counts_of_items, counts_of_groups, counts_of}
-use Rattle.hf_store.specs.Seen.{item_of, items_of, stated}
+use Rattle.hf_store.specs.Seen.{items_of, stated}
 use Rattle.hf_store.specs.Store.{ItemStore}
 use Rattle.hf_store.specs.Table.{props_of}
 use Rattle.hf_store.specs.Valid.{Valid}

@@ -1,9 +1,9 @@
-use Rattle.std.proofs.Common.{◌≡◌, ℕ, List, length, map, sym, ap, subst, ◌∙◌}
+use Rattle.std.proofs.Common.{◌≡◌, length, map, sym, ap, subst, ◌∙◌}
 use Rattle.std.specs.List.{flat_map, remove, sum_by}
 use Rattle.hf_links.specs.Grpl.{groups_of}
-use Rattle.hf_store.specs.Capped.{capped, capped_counts}
+use Rattle.hf_store.specs.Capped.{capped_counts}
 use Rattle.hf_store.specs.Changes.{id_at, is_other, cut_item, removed}
-use Rattle.hf_store.specs.Counts.{Counts, HasCounts, counts_of_item, counts_of_items, counts_of_groups, counts_of, plus, targets_of}
+use Rattle.hf_store.specs.Counts.{HasCounts, counts_of_items, counts_of_groups, counts_of, plus, targets_of}
 use Rattle.hf_store.specs.Seen.{item_of, items_of, store_of}
 use Rattle.hf_store.specs.Store.{Item, ItemStore}
 use Rattle.hf_store.specs.Table.{props_of}

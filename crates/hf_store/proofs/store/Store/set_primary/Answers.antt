@@ -1,4 +1,4 @@
-use Rattle.std.proofs.Common.{◌≡◌, sym, ap, subst}
+use Rattle.std.proofs.Common.{sym, ap, subst}
 use Rattle.hf_store.specs.Changes.{with_primary}
 use Rattle.hf_store.specs.Counts.{counts_of}
 use Rattle.hf_store.specs.Valid.{Valid}

@@ -2,12 +2,10 @@ use Rattle.std.proofs.Common.{◌≡◌, List, set, refl, sym, ap, subst, ◌∙
 use Rattle.hf_prop.specs.declared.held.Held.{Held}
 use Rattle.hf_store.specs.Changes.{holding, with_props}
 use Rattle.hf_store.specs.Counts.{HasCounts}
-use Rattle.hf_store.specs.Kept.{IsKept}
 use Rattle.hf_store.specs.Seen.{item_of, items_of, store_of}
 use Rattle.hf_store.specs.Store.{Item, ItemStore}
 use Rattle.hf_store.specs.Valid.{Valid}
 use Rattle.hf_store.specs.declared.item.Item.{Item as CodeItem}
-use Rattle.hf_store.specs.declared.store.Store.TheInside.{Inside}
 use Rattle.hf_table.specs.Held.{props_in}
 use Rattle.hf_table.specs.Uses.{HasRoom, Holds, Trades}
 use Rattle.hf_store.proofs.Removed.{taken_holds, taken_part}
