@@ -23,7 +23,7 @@ transitive some more all a b = record { kinds = omega (arith, a.kinds, b.kinds);
 without_one : (before after : List Prop) (p : Prop) → IsLess (before ++ after) (before ++ p ∷ after)
 without_one before after p = record { kinds = omega (arith, table-length-more p before after); bytes = omega (arith, table-sizes-more p before after) }
 
-without_some : (before ps after : List Prop) → IsLess (before ++ after) (before ++ (ps ++ after))
+pub without_some : (before ps after : List Prop) → IsLess (before ++ after) (before ++ (ps ++ after))
 without_some before [] after = less_than_itself (before ++ after)
 without_some before (p ∷ ps) after = transitive (before ++ after) (before ++ (ps ++ after)) (before ++ p ∷ (ps ++ after)) (without_some before ps after) (without_one before (ps ++ after) p)
 

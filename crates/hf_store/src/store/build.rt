@@ -1,1 +1,84 @@
-//! A store is built.
+//! A store is made of parts.
+
+ghost use Rattle.std.specs.Prelude.{◌≡◌, ◌≤◌, length, IfOk};
+ghost use Rattle.std.specs.List.{AllByRecursion, flat_map};
+ghost use Rattle.hf_base.specs.declared.limits.TheConstants as limits;
+ghost use Rattle.hf_store.specs.Seen.{items_of, stated};
+ghost use Rattle.hf_store.specs.Store.{Item as StatedItem};
+ghost use Rattle.hf_store.specs.Table.{props_of};
+ghost use Rattle.hf_store.specs.Valid.{Valid};
+ghost use Rattle.hf_table.specs.Table.{size_sum, table};
+ghost use Rattle.hf_table.specs.Uses.{Tallies};
+
+use crate::Item;
+use crate::store::{Parts, Store};
+use crate::tally::{count_groups, count_items};
+use hf_base::{NoMemory, TryClone};
+use hf_table::Uses;
+use std::alloc::Global;
+
+/// The distinct properties of some items, with the numbers of their holders.
+fn uses_of<'a>(alloc: Global, items: &[Item<'a>]) -> Result<Uses<'a>, NoMemory>
+    requires few { length items.now ≤ limits.ITEMS }
+    requires short { AllByRecursion (λ (i : StatedItem). length i.props ≤ limits.PROPS) (items_of items.now) }
+    requires light { size_sum (table (flat_map props_of (items_of items.now))) ≤ limits.META }
+    ensures { IfOk result (λ uses. Tallies uses (flat_map props_of (items_of items.now))) }
+{
+    let mut uses = Uses::new(alloc);
+    for item in items {
+        let _bytes = uses.bytes();
+        uses.add_all(item.props.as_slice())?;
+    }
+    Ok(uses)
+}
+
+/// The same elements again. `NoMemory` comes where memory was refused.
+fn clone_of<T: TryClone + Drop>(alloc: Global, list: &[T]) -> Result<Vec<T>, NoMemory>
+    ensures { IfOk result (λ copy. copy.items ≡ list.now) }
+{
+    let mut elements = Vec::new(alloc);
+    for element in list {
+        elements.push(element.try_clone()?)?;
+    }
+    Ok(elements)
+}
+
+impl<'a> Store<'a> {
+    /// The same store again. `NoMemory` comes where memory was refused.
+    pub fn try_clone(&self) -> Result<Store<'a>, NoMemory>
+        ensures { IfOk result (λ store. store ≡ self.now) }
+    {
+        let alloc = *self.items.allocator();
+        let items = clone_of(alloc, &self.items)?;
+        let groups = clone_of(alloc, &self.groups)?;
+        let uses = uses_of(alloc, &items)?;
+        Ok(Store {
+            brands: self.brands,
+            primary: self.primary,
+            items,
+            groups,
+            uses,
+            counts: self.counts,
+        })
+    }
+
+    /// The store of parts that are valid together, which are spent in every case. `NoMemory` comes
+    /// where memory was refused.
+    pub fn of(alloc: Global, parts: Parts<'a>) -> Result<Store<'a>, NoMemory>
+        requires { Valid (stated parts) }
+        ensures { IfOk result (λ store. store ≡ stated parts.entry) }
+    {
+        let items = parts.items.into_vec();
+        let groups = parts.groups.into_vec();
+        let uses = uses_of(alloc, &items)?;
+        let counts = count_items(&items).plus(count_groups(&groups));
+        Ok(Store {
+            brands: parts.brands,
+            primary: parts.primary,
+            items,
+            groups,
+            uses,
+            counts,
+        })
+    }
+}
