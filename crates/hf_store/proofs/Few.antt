@@ -1,11 +1,16 @@
 -- What is counted over a valid store is few.
-use Rattle.std.proofs.Common.{◌≡◌, ℕ, ◌+◌, ap, arith, inl}
+use Rattle.std.proofs.Common.{◌≡◌, ℕ, ◌+◌, ◌≤◌, ap, arith, inl}
+use Rattle.std.specs.List.{flat_map}
+use Rattle.hf_base.specs.declared.limits.TheConstants as limits
+use Rattle.hf_table.specs.Table.{table, size_sum}
 use Rattle.hf_store.specs.Capped.{capped_counts}
 use Rattle.hf_store.specs.Counts.{Counts, HasCounts, plus}
 use Rattle.hf_store.specs.Sizes.{counted_meta, AreFew}
 use Rattle.hf_store.specs.Store.{ItemStore}
+use Rattle.hf_store.specs.Table.{props_of, table_of}
 use Rattle.hf_store.specs.Valid.{meta_len, Valid}
 use Rattle.hf_store.proofs.Capped.{capped-small}
+use Rattle.hf_store.proofs.FewCounts.{counts_are_few}
 use Rattle.hf_store.proofs.MetaCounts.{valid_fours, meta_is_counted}
 
 pub few_capped : (c : Counts) → AreFew c → capped_counts c ≡ c
@@ -85,3 +90,8 @@ plus-cancel a b c e = λ j. record {
   where
     cancel : (m n k : ℕ) → m + k ≡ n + k → m ≡ n
     cancel m n k e = omega (arith, e)
+
+-- the boxes of the distinct properties are within `meta`
+pub light_props : (s : ItemStore) → Valid s → size_sum (table (flat_map props_of s.items)) ≤ limits.META
+unfolding table_of
+light_props s valid = (counts_are_few s valid).1

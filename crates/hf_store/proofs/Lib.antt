@@ -2,6 +2,7 @@ pub mod BareLengths
 pub mod Bodies
 pub mod BoxLengths
 pub mod Capped
+pub mod Swapped
 pub mod Counted
 pub mod CountsAre
 pub mod Cuts
@@ -19,12 +20,14 @@ pub mod KeptLimits
 pub mod LaidFiles
 pub mod LargeStores
 pub mod Lengths
+pub mod Listed
 pub mod Mapped
 pub mod References
 pub mod MetaCounts
 pub mod Needers
 pub mod Offsets
 pub mod PlainLengths
+pub mod Pushed
 pub mod Reasons
 pub mod RefusedStores
 pub mod Removals

@@ -1,8 +1,14 @@
 -- What is left of a plain store where items go, and of items of which one is taken out.
-use Rattle.std.proofs.Common.{◌≡◌, ℕ, zero, suc, ◌<◌, ◌≤◌, Bool, true, false, not, List, [], ◌∷◌, length, filter, refl, ap, arith, inl, inr, eqb-true}
+use Rattle.std.proofs.Common.{sym, ◌∙◌, ◌≡◌, ℕ, zero, suc, ◌<◌, ◌≤◌, Bool, true, false, not, List, [], ◌∷◌, length, filter, refl, ap, arith, inl, inr, eqb-true, ◌+◌, length-append, drop, Some}
 use Rattle.std.specs.Prelude.{◌==◌}
 use Rattle.std.specs.List.{remove}
 use Rattle.std.proofs.lemmas.Bool.{cases_Bool, eq-eqb}
+use Rattle.std.specs.List.{flat_map}
+use Rattle.std.specs.Prelude.{slice_get}
+use Rattle.std.proofs.lemmas.List.{drop_all}
+use Rattle.std.proofs.lemmas.List.Concat.{length-flat_map}
+use Rattle.hf_store.specs.Valid.{body_sum}
+use Rattle.hf_store.proofs.Spots.{drop_here}
 use Rattle.hf_store.specs.Lists.{RisesFrom}
 use Rattle.hf_store.specs.Store.{Item, ItemStore, ids_of}
 use Rattle.hf_store.specs.Plain.{IsPlainItem, ArePlain, IsPlain}
@@ -78,3 +84,19 @@ others-removed low (i ∷ is) (suc k) rises within =
       | inl stays ↦ rw stays (ap (λ (js : List Item). i ∷ js) (others-removed i.id is k rises.1 (omega arith)))
       | inr goes ↦ absurd (let same = eqb-true i.id (id_at k is) (not-not (i.id == id_at k is) goes) in omega (arith, same, later))
     ]
+
+-- ---- the bytes of items
+
+body_sum-bytes : (is : List Item) → body_sum is ≡ length (flat_map (λ (i : Item). i.bytes) is)
+unfolding body_sum
+body_sum-bytes is = sym (length-flat_map (λ (i : Item). i.bytes) is)
+
+pub body_sum-cons : (i : Item) (is : List Item) → body_sum (i ∷ is) ≡ length i.bytes + body_sum is
+body_sum-cons i is = omega (arith, body_sum-bytes (i ∷ is), body_sum-bytes is, length-append i.bytes (flat_map (λ (j : Item). j.bytes) is))
+
+pub body_sum-here : (is : List Item) (k : ℕ) (i : Item) → slice_get is k ≡ Some i → body_sum (drop k is) ≡ length i.bytes + body_sum (drop (k + 1) is)
+body_sum-here is k i e = ap body_sum (drop_here is k i e) ∙ body_sum-cons i (drop (k + 1) is)
+
+pub body_sum-end : (is : List Item) (k : ℕ) → length is ≤ k → body_sum (drop k is) ≡ 0
+unfolding body_sum
+body_sum-end is k h = ap body_sum (drop_all k is h)

@@ -110,12 +110,16 @@ module _ (inside : Inside) (s : ItemStore) (view : store_of inside ≡ s) (kept 
   pub taken_part : HasCounts inside.counts (capped_counts (counts_of_item (item_of item)))
   taken_part = has_part inside.counts rest (counts_of_item (item_of item)) parts
 
+  pub taken_exact : (part : Counts) → part ≡ capped_counts (counts_of_item (item_of item)) → part ≡ counts_of_item (item_of item)
+  taken_exact part is =
+      let few : AreFew inside.counts = subst AreFew (sym kept.counted) (counts_few (store_of inside) kept.valid) in
+      is ∙ few_capped (counts_of_item (item_of item)) (few_part inside.counts rest (counts_of_item (item_of item)) few parts)
+
   -- and what is left of them are those of the others
   pub taken_left : (left part : Counts) → part ≡ capped_counts (counts_of_item (item_of item)) → plus left part ≡ inside.counts → left ≡ plus (counts_of_items (remove (items_of inside.items.items) k)) (counts_of_groups (store_of inside).groups)
   unfolding rest counts_of
   taken_left left part is sum =
-      let few : AreFew inside.counts = subst AreFew (sym kept.counted) (counts_few (store_of inside) kept.valid) in
-      let exact : part ≡ counts_of_item (item_of item) = is ∙ few_capped (counts_of_item (item_of item)) (few_part inside.counts rest (counts_of_item (item_of item)) few parts) in
+      let exact : part ≡ counts_of_item (item_of item) = taken_exact part is in
       plus-cancel left rest (counts_of_item (item_of item)) (ap (plus left) (sym exact) ∙ sum ∙ sym parts)
 
 -- what is counted anew over a valid store is exact

@@ -1,27 +1,23 @@
 -- The properties of the first items, while their uses are counted.
-use Rattle.std.proofs.Common.{◌≡◌, ℕ, zero, suc, ◌+◌, ◌<◌, ◌≤◌, List, [], ◌∷◌, ◌++◌, length, map, take, drop, get_or, refl, sym, ap, ◌∙◌, subst, arith, Some}
+use Rattle.std.proofs.Common.{◌≡◌, ℕ, zero, suc, ◌+◌, ◌<◌, ◌≤◌, List, [], ◌∷◌, ◌++◌, length, map, take, drop, refl, sym, ap, ◌∙◌, subst, arith, Some}
 use Rattle.std.specs.Prelude.{slice_get}
 use Rattle.std.specs.List.{AllByRecursion, flat_map}
 use Rattle.std.proofs.lemmas.Grind.{flat_map-append}
 use Rattle.std.proofs.lemmas.List.Elements.{All-from_recursion}
-use Rattle.std.proofs.lemmas.List.{append-nil, take_all, take_more, take-append-drop, length-map, length-take}
+use Rattle.std.proofs.lemmas.List.{append-nil, take_more, take-append-drop, length-map, length-take}
 use Rattle.hf_base.specs.declared.limits.TheConstants as limits
 use Rattle.hf_prop.specs.declared.prop.Prop.{Prop}
-use Rattle.hf_store.specs.Seen.{item_of, items_of}
 use Rattle.hf_store.specs.Store.{Held, Item}
 use Rattle.hf_store.specs.Table.{props_of}
-use Rattle.hf_store.specs.declared.item.Item.{Item as CodeItem}
-use Rattle.hf_table.specs.Held.{all_props, props_in}
+use Rattle.hf_table.specs.Held.{all_props}
 use Rattle.hf_table.specs.Table.{places_of, table, size_sum}
 use Rattle.hf_table.specs.Uses.{Use, Tallies, Gains, IsCount, HasRoom}
 use Rattle.hf_table.proofs.Rooms.{limits_leave_room}
-use Rattle.hf_table.proofs.Stores.{tallies-pushed}
 use Rattle.hf_table.proofs.Tally.{places-append}
-use Rattle.hf_store.proofs.CutTables.{IsLess, without_some}
-use Rattle.hf_store.proofs.Mapped.{here_at}
+use Rattle.hf_store.proofs.CutTables.{without_some}
 use Rattle.hf_store.proofs.Spots.{at_or, within_at, drop_here, holds_here}
 
-all-mapped : (is : List Item) → all_props (map props_of is) ≡ flat_map props_of is
+pub all-mapped : (is : List Item) → all_props (map props_of is) ≡ flat_map props_of is
 all-mapped [] = refl
 all-mapped (i ∷ is) = ap (λ ps. props_of i ++ ps) (all-mapped is)
 

@@ -13,7 +13,7 @@ ghost use Rattle.hf_table.specs.Uses.{Tallies};
 use crate::Item;
 use crate::store::{Parts, Store};
 use crate::tally::{count_groups, count_items};
-use hf_base::{NoMemory, Series, TryClone};
+use hf_base::{NoMemory, TryClone};
 use hf_table::Uses;
 use std::alloc::Global;
 
@@ -32,7 +32,36 @@ fn uses_of<'a>(alloc: Global, items: &[Item<'a>]) -> Result<Uses<'a>, NoMemory>
     Ok(uses)
 }
 
+/// The same elements again. `NoMemory` comes where memory was refused.
+fn clone_of<T: TryClone + Drop>(alloc: Global, list: &[T]) -> Result<Vec<T>, NoMemory>
+    ensures { IfOk result (λ copy. copy.items ≡ list.now) }
+{
+    let mut elements = Vec::new(alloc);
+    for element in list {
+        elements.push(element.try_clone()?)?;
+    }
+    Ok(elements)
+}
+
 impl<'a> Store<'a> {
+    /// The same store again. `NoMemory` comes where memory was refused.
+    pub fn try_clone(&self) -> Result<Store<'a>, NoMemory>
+        ensures { IfOk result (λ store. store ≡ self.now) }
+    {
+        let alloc = *self.items.allocator();
+        let items = clone_of(alloc, &self.items)?;
+        let groups = clone_of(alloc, &self.groups)?;
+        let uses = uses_of(alloc, &items)?;
+        Ok(Store {
+            brands: self.brands,
+            primary: self.primary,
+            items,
+            groups,
+            uses,
+            counts: self.counts,
+        })
+    }
+
     /// The store of parts that are valid together, which are spent in every case. `NoMemory` comes
     /// where memory was refused.
     pub fn of(alloc: Global, parts: Parts<'a>) -> Result<Store<'a>, NoMemory>

@@ -1,12 +1,20 @@
 //! Changes of a store.
 
-ghost use Rattle.std.specs.Prelude.{◌≡◌, ◌<◌, length};
-ghost use Rattle.hf_store.specs.Changes.{id_at, removed};
+ghost use Rattle.std.specs.Prelude.{◌≡◌, ◌<◌, length, not, OnOk, OnErr};
+ghost use Rattle.std.specs.List.Sorted.{IsStrictlyIncreasing};
+ghost use Rattle.hf_store.specs.Changes.{added, id_at, kept_only, removed, with_hidden, with_primary, with_props, without_props};
+ghost use Rattle.hf_store.specs.Seen.{item_of};
 ghost use Rattle.hf_store.specs.Valid.{Valid};
+ghost use Rattle.hf_table.specs.Held.{is_among, is_of};
 
 use crate::cutting::{Links, Stays, cut_groups, cut_items};
+use crate::item::{Item, Props};
 use crate::store::Store;
-use crate::tally::{Counts, count_groups, count_item};
+use crate::tally::{Counts, count_groups, count_item, count_items};
+use hf_base::{FourCc, Ids, NoMemory, Series};
+use hf_prop::Held;
+use hf_table::is_listed;
+use std::mem;
 
 /// Counts with those of references and groups put in.
 fn relinked(counts: Counts, links: &Links, groups: Counts) -> Counts
@@ -23,6 +31,93 @@ fn relinked(counts: Counts, links: &Links, groups: Counts) -> Counts
 }
 
 impl<'a> Store<'a> {
+    /// Makes the item with an id the primary one.
+    pub fn set_primary(&mut self, id: u32)
+        requires { Valid (with_primary id self.old) }
+        ensures { self.new ≡ with_primary id self.old }
+    {
+        self.primary = id;
+    }
+
+    /// Hides the item at a place, counted from 0 by rising id, or shows it.
+    pub fn set_hidden(&mut self, i: usize, hidden: bool)
+        requires place { i < length self.old.items }
+        requires valid { Valid (with_hidden i hidden self.old) }
+        ensures { self.new ≡ with_hidden i hidden self.old }
+    {
+        let item = &mut self.items[i];
+        item.hidden = hidden;
+    }
+
+    /// Drops the properties of one type of the item at a place, counted from 0 by rising id.
+    pub fn drop_props(&mut self, i: usize, kind: FourCc)
+        requires place { i < length self.old.items }
+        requires valid { Valid (without_props i kind self.old) }
+        ensures { self.new ≡ without_props i kind self.old }
+    {
+        let item = &mut self.items[i];
+        self.uses.take_kind(item.props.as_slice(), kind);
+        let left = self.counts.minus(count_item(item));
+        item.props.retain(
+            |held: &Held| -> bool
+                ensures { result ≡ not (is_of kind held.now) }
+            { held.prop.kind != kind },
+        );
+        self.counts = left.plus(count_item(item));
+    }
+
+    /// Gives the item at a place, counted from 0 by rising id, other properties; they are spent in every
+    /// case. After `NoMemory` the store is as before.
+    pub fn set_props(&mut self, i: usize, props: Props<'a>) -> Result<(), NoMemory>
+        requires place { i < length self.old.items }
+        requires valid { Valid (with_props i props self.old) }
+        ensures set { OnOk result (self.new ≡ with_props i props.entry self.old) }
+        ensures unchanged { OnErr result (self.new ≡ self.old) }
+    {
+        let props = props.into_vec();
+        let _bytes = self.uses.bytes();
+        let item = &mut self.items[i];
+        self.uses.replace(item.props.as_slice(), &props)?;
+        let left = self.counts.minus(count_item(item));
+        let _old = mem::replace(&mut item.props, Series::from_vec(props)).into_vec();
+        self.counts = left.plus(count_item(item));
+        Ok(())
+    }
+
+    /// One more item, behind the others; it is spent in every case. After `NoMemory` the store is as
+    /// before.
+    pub fn add(&mut self, item: Item<'a>) -> Result<(), NoMemory>
+        requires { Valid (added (item_of item) self.old) }
+        ensures added { OnOk result (self.new ≡ added (item_of item.entry) self.old) }
+        ensures unchanged { OnErr result (self.new ≡ self.old) }
+    {
+        let _bytes = self.uses.bytes();
+        self.items.reserve(1)?;
+        self.uses.add_all(item.props.as_slice())?;
+        self.counts = self.counts.plus(count_item(&item));
+        self.items.push(item)?;
+        Ok(())
+    }
+
+    /// Keeps the items whose ids are listed, which rise; the others go as by `remove`.
+    pub fn keep_only(&mut self, keep: &Ids)
+        requires rises { IsStrictlyIncreasing keep.now }
+        requires valid { Valid (kept_only keep.now self.old) }
+        ensures { self.new ≡ kept_only keep.now self.old }
+    {
+        let ids = keep.as_slice();
+        self.uses.take_others(&self.items, ids);
+        self.items.retain(
+            |item: &Item| -> bool
+                ensures { IsStrictlyIncreasing ids.entry.now → result ≡ is_among ids.entry.now item.now.id }
+            { is_listed(ids, item.id) },
+        );
+        let stays = Stays::Listed(ids);
+        let _links = cut_items(&mut self.items, &stays);
+        cut_groups(&mut self.groups, &stays);
+        self.counts = count_items(&self.items).plus(count_groups(&self.groups));
+    }
+
     /// Takes the item at a place out, counted from 0 by rising id, and its id from all references and
     /// groups: a list of references or a group of which nothing is left goes, and a group that loses an
     /// entity where bytes stand after its entities.

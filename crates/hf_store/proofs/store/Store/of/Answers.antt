@@ -1,25 +1,24 @@
-use Rattle.std.proofs.Common.{◌≡◌, ◌≤◌, length, sym, ap, subst, ◌∙◌, arith}
+use Rattle.std.proofs.Common.{◌≡◌, ◌≤◌, sym, ap, subst, ◌∙◌}
 use Rattle.std.specs.List.{flat_map}
 use Rattle.hf_base.specs.declared.limits.TheConstants as limits
 use Rattle.hf_head.specs.Ftyp.{brands_of}
 use Rattle.hf_links.specs.Grpl.{groups_of}
 use Rattle.hf_store.specs.Capped.{capped_counts}
 use Rattle.hf_store.specs.Counts.{plus, counts_of_items, counts_of_groups, counts_of}
-use Rattle.hf_store.specs.Seen.{item_of, items_of, stated}
+use Rattle.hf_store.specs.Seen.{items_of, stated}
 use Rattle.hf_store.specs.Store.{ItemStore}
-use Rattle.hf_store.specs.Table.{props_of, table_of}
+use Rattle.hf_store.specs.Table.{props_of}
 use Rattle.hf_store.specs.Valid.{Valid}
 use Rattle.hf_table.specs.Table.{table, size_sum}
 use Rattle.hf_table.specs.Uses.{Tallies}
 use Rattle.hf_store.proofs.Capped.{capped-plus}
-use Rattle.hf_store.proofs.Few.{few_capped}
-use Rattle.hf_store.proofs.FewCounts.{counts_are_few}
+use Rattle.hf_store.proofs.Few.{few_capped, light_props}
+use Rattle.hf_store.proofs.FewCounts.{counts_few}
 use Rattle.hf_store.proofs.store.Store.of.Goals as goal
 
 pub uses_of-requires-clause-light : goal.uses_of-requires-clause-light
-unfolding table_of
 uses_of-requires-clause-light c =
-    subst (λ is. size_sum (table (flat_map props_of (items_of is))) ≤ limits.META) (sym (c.deref.ensures.value ∙ c.into_vec-items.ensures)) (counts_are_few (stated c.args.parts) c.requires).1
+    subst (λ is. size_sum (table (flat_map props_of (items_of is))) ≤ limits.META) (sym (c.deref.ensures.value ∙ c.into_vec-items.ensures)) (light_props (stated c.args.parts) c.requires)
 
 pub invariant_of-result : goal.invariant_of-result
 unfolding counts_of
@@ -36,5 +35,5 @@ invariant_of-result c =
       tallies = subst (λ js. Tallies c.in_ok-uses.uses (flat_map props_of (items_of js))) c.deref.ensures.value c.in_ok-uses.ensures;
       counted =
           c.plus-counts.ensures ∙ ap (λ k. capped_counts (plus k c.count_groups.result)) items ∙ ap (λ k. capped_counts (plus (capped_counts (counts_of_items t.items)) k)) groups
-          ∙ capped-plus (counts_of_items t.items) (counts_of_groups t.groups) ∙ few_capped (plus (counts_of_items t.items) (counts_of_groups t.groups)) (counts_are_few t valid).0;
+          ∙ capped-plus (counts_of_items t.items) (counts_of_groups t.groups) ∙ few_capped (plus (counts_of_items t.items) (counts_of_groups t.groups)) (counts_few t valid);
     }

@@ -1,0 +1,30 @@
+use Rattle.std.proofs.Common.{◌≡◌, ◌≤◌, sym, ap, subst, ◌∙◌}
+use Rattle.std.specs.List.{flat_map}
+use Rattle.hf_base.specs.declared.limits.TheConstants as limits
+use Rattle.hf_links.specs.Grpl.{groups_of}
+use Rattle.hf_store.specs.Counts.{counts_of}
+use Rattle.hf_store.specs.Seen.{items_of, store_of}
+use Rattle.hf_store.specs.Store.{ItemStore}
+use Rattle.hf_store.specs.Table.{props_of}
+use Rattle.hf_store.specs.Valid.{Valid}
+use Rattle.hf_table.specs.Table.{table, size_sum}
+use Rattle.hf_table.specs.Uses.{Tallies}
+use Rattle.hf_store.proofs.Few.{light_props}
+use Rattle.hf_store.proofs.store.Store.try_clone.Goals as goal
+
+pub uses_of-requires-clause-light : goal.uses_of-requires-clause-light
+uses_of-requires-clause-light c =
+    subst (λ is. size_sum (table (flat_map props_of (items_of is))) ≤ limits.META) (sym (c.deref-3.ensures.value ∙ c.in_ok-items.ensures ∙ c.deref.ensures.value)) (light_props (store_of c.self.inside) c.self.invariant.valid)
+
+pub invariant_of-result : goal.invariant_of-result
+invariant_of-result c =
+    let s = store_of c.self.inside in
+    let t : ItemStore = record s { items = items_of c.in_ok-items.items.items; groups = groups_of c.in_ok-groups.groups.items } in
+    let items = c.in_ok-items.ensures ∙ c.deref.ensures.value in
+    let groups = c.in_ok-groups.ensures ∙ c.deref-2.ensures.value in
+    let same : t ≡ s = λ j. record s { items = items_of (items j); groups = groups_of (groups j) } in
+    record {
+      valid = subst Valid (sym same) c.self.invariant.valid;
+      tallies = subst (λ is. Tallies c.in_ok-uses.uses (flat_map props_of (items_of is))) c.deref-3.ensures.value c.in_ok-uses.ensures;
+      counted = c.self.invariant.counted ∙ ap counts_of (sym same);
+    }
