@@ -16,7 +16,7 @@ abbrev turned : Stated
 turned = record (plain 1 "hvc1" (hex_of "aabbcc")) { props = essential "irot" (hex_of "01") ∷ [] }
 
 pub turned_item : (bytes : List ℕ) (props : List Held) (refs : List RefList) → bytes ≡ hex_of "aabbcc" → props ≡ essential "irot" (hex_of "01") ∷ [] → refs ≡ []
-    → record { id = 1; kind = four "hvc1"; hidden = false; name = []; content = []; encoding = []; uri = []; bytes = bytes; props = props; refs = refs } ≡ turned
+    → record (plain 1 "hvc1" bytes) { props = props; refs = refs } ≡ turned
 turned_item bytes props refs e f g = λ j. record (plain 1 "hvc1" (e j)) { props = f j; refs = g j }
 
 -- the parts that the test has are this store
