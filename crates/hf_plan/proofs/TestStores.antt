@@ -1,7 +1,7 @@
 -- The store of the test.
-use Rattle.std.proofs.Common.{◌≡◌, ℕ, false, List, [], ◌∷◌, ◌++◌, refl, ap, ◌∙◌}
+use Rattle.std.proofs.Common.{◌≡◌, ℕ, List, [], ◌∷◌, ◌++◌, refl, ap, ◌∙◌}
 use Rattle.std.specs.Prelude.{map, slice_get}
-use Rattle.hf_box.specs.Literals.{four, hex_of}
+use Rattle.hf_box.specs.Literals.{hex_of}
 use Rattle.hf_links.specs.Grpl.{groups_of}
 use Rattle.hf_links.specs.declared.grpl.Group.{Group}
 use Rattle.hf_store.specs.Seen.{item_of, items_of}

@@ -15,7 +15,7 @@ use Rattle.hf_box.specs.Walk.{is_kind}
 use Rattle.hf_box.proofs.SameKinds.{same_kind, is_same_kind}
 use Rattle.hf_order.proofs.Members.{in_map, from_map, in_filter, in_joined, in_has, all_from}
 use Rattle.hf_store.specs.Lists.{not_empty}
-use Rattle.hf_store.specs.declared.item.RefList.{RefList}
+use Rattle.hf_store.specs.Store.{RefList}
 use Rattle.hf_store.specs.References.{joined, kinds_of, IsKept, KeepsRefs}
 use Rattle.hf_store.specs.Valid.{IsBelow}
 use Rattle.hf_store.proofs.References.{below_transitive, below_total}

@@ -26,8 +26,7 @@ use Rattle.hf_order.proofs.Members.{in_all, all_from, from_map}
 use Rattle.hf_prop.specs.Held.{Held}
 use Rattle.hf_store.specs.Derived.{inputs}
 use Rattle.hf_store.specs.References.{IsKept}
-use Rattle.hf_store.specs.Store.{Item, ItemStore, ids_of}
-use Rattle.hf_store.specs.declared.item.RefList.{RefList}
+use Rattle.hf_store.specs.Store.{RefList, Item, ItemStore, ids_of}
 use Rattle.hf_store.specs.Table.{table_of}
 use Rattle.hf_store.specs.Valid.{HasBrand, AreGoodBrands, IsGoodRef, IsGoodItem, IsGoodGroup, Valid}
 use Rattle.hf_base.specs.Entries.{has_id}

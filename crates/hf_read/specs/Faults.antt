@@ -16,8 +16,7 @@ use Rattle.hf_prop.specs.declared.iprp.Iprp.{Iprp}
 use Rattle.hf_prop.specs.declared.prop.Prop.{Prop}
 use Rattle.hf_store.specs.Changes.{is_need}
 use Rattle.hf_store.specs.Derived.{inputs, input_pairs}
-use Rattle.hf_store.specs.Store.{Item, ItemStore, ids_of}
-use Rattle.hf_store.specs.declared.item.RefList.{RefList}
+use Rattle.hf_store.specs.Store.{RefList, Item, ItemStore, ids_of}
 use Rattle.hf_store.specs.Valid.{meta_len}
 use Rattle.hf_read.specs.Kept.{picks_of}
 use Rattle.hf_read.specs.Walks.{first_walker}

@@ -17,7 +17,7 @@ use Rattle.hf_prop.specs.declared.assoc.Pick.{Pick}
 use Rattle.hf_prop.specs.declared.iprp.Iprp.{Iprp}
 use Rattle.hf_prop.specs.declared.prop.Prop.{Prop}
 use Rattle.hf_store.specs.Lists.{not_empty}
-use Rattle.hf_store.specs.declared.item.RefList.{RefList}
+use Rattle.hf_store.specs.Store.{RefList}
 use Rattle.hf_store.specs.References.{joined}
 use Rattle.hf_read.specs.Rising.{by_rising}
 

@@ -1,4 +1,4 @@
-use Rattle.std.proofs.Common.{◌≡◌, refl, sym, ◌∙◌, subst}
+use Rattle.std.proofs.Common.{◌≡◌, refl, sym, subst}
 use Rattle.std.specs.Prelude.{IfOk}
 use Rattle.hf_store.specs.Store.{ItemStore}
 use Rattle.hf_store.specs.Valid.{Valid}
