@@ -29,8 +29,8 @@ sizes-counted long s valid =
     rw (meta, sizes.iinf, sizes.iref, sizes.iprp, sizes.ipco, sizes.ipma, sizes.grpl, sizes.idat, iloc, sizes.mdat) refl
 
 -- the same by numbers that are equal
-pub sizes-told : (long : Bool) (s : ItemStore) (wide : Bool) (kinds props : ℕ) (c : Counts) → Valid s → wide ≡ is_wide s.items → kinds ≡ length (table_of s)
-    → props ≡ short_props (table_of s) → c ≡ counts_of s → sizes_by long wide kinds props c ≡ sizes_of long s
+pub sizes-told : (long : Bool) (s : ItemStore) (wide : Bool) (kinds props : ℕ) (c : Counts) → Valid s → wide ≡ is_wide s.items
+    → kinds ≡ length (table_of s) → props ≡ short_props (table_of s) → c ≡ counts_of s → sizes_by long wide kinds props c ≡ sizes_of long s
 sizes-told long s wide kinds props c valid e f g h =
     (λ j. sizes_by long (e j) (f j) (g j) (h j)) ∙ sym (sizes-counted long s valid)
 

@@ -15,3 +15,4 @@ pub mod Plans
 pub mod PlansWorked
 pub mod Readers
 pub mod Starts
+pub mod TestStores

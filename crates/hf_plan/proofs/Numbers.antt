@@ -33,7 +33,8 @@ pub firsts_are : (s : ItemStore) (t : Table) → IsTableOf (lists_of s) t → Al
 unfolding table_of
 firsts_are s t is = subst (λ (ps : List Prop). AllZip (IsFirst (lists_of s) ps) t.firsts.items (table ps)) (all_lists s) is.firsts
 
-pub numbers_are : (s : ItemStore) (t : Table) → IsTableOf (lists_of s) t → pieces_at t.starts.items t.numbers.items ≡ map (numbers_of (table_of s)) s.items
+pub numbers_are : (s : ItemStore) (t : Table) → IsTableOf (lists_of s) t
+    → pieces_at t.starts.items t.numbers.items ≡ map (numbers_of (table_of s)) s.items
 numbers_are s t is =
     let number : List Prop → Prop → ℕ = λ ps p. number_of p ps in
     pieces_are (number (table (all_props (lists_of s)))) t.starts.items t.numbers.items (lists_of s) is.numbers is.count is.starts

@@ -53,7 +53,10 @@ begins_are n [] (ps ∷ lists) count each = absurd (omega (arith, count))
 begins_are n (b ∷ bs) [] count each = absurd (omega (arith, count))
 begins_are n (b ∷ bs) (ps ∷ lists) count each =
     let first : b ≡ n = each 0 (omega arith) ∙ omega arith in
-    let rest = begins_are (n + length ps) bs lists (omega (arith, count)) (λ i within. each (suc i) (omega (arith, within)) ∙ omega (arith, length-append ps (all_props (take i lists)))) in
+    let next : (i : ℕ) → i < length lists → slice_index bs i ≡ n + length ps + length (all_props (take i lists)) = λ i within.
+    each (suc i) (omega (arith, within)) ∙ omega (arith, length-append ps (all_props (take i lists)))
+    in
+    let rest = begins_are (n + length ps) bs lists (omega (arith, count)) next in
     ap (λ c. c ∷ bs) first ∙ ap (λ cs. n ∷ cs) rest
 
 -- ---- each list is its piece
@@ -65,7 +68,8 @@ module _ (f : Prop → ℕ) where
   after : (before xs ys : List ℕ) (n : ℕ) → n ≡ length before → drop n (before ++ (xs ++ ys)) ≡ xs ++ ys
   after before xs ys n is = ap (λ k. drop k (before ++ (xs ++ ys))) is ∙ drop-append_seam before (xs ++ ys)
 
-  pieces_from : (before : List ℕ) (n : ℕ) (lists : List (List Prop)) → n ≡ length before → pieces_at (begins_from n lists) (before ++ map f (all_props lists)) ≡ map (map f) lists
+  pieces_from : (before : List ℕ) (n : ℕ) (lists : List (List Prop)) → n ≡ length before
+      → pieces_at (begins_from n lists) (before ++ map f (all_props lists)) ≡ map (map f) lists
   pieces_from before n [] is = refl
   pieces_from before n (ps ∷ []) is =
       let rest : map f (all_props (ps ∷ [])) ≡ map f ps = ap (map f) (append-nil ps) in
@@ -79,12 +83,16 @@ module _ (f : Prop → ℕ) where
       in
       let next : n + length ps ≡ length (before ++ map f ps) = omega (arith, is, length-append before (map f ps), length-map ps f) in
       let rest : pieces_at (begins_from (n + length ps) (qs ∷ lists)) (before ++ (map f ps ++ later)) ≡ map (map f) (qs ∷ lists) =
-      ap (pieces_at (begins_from (n + length ps) (qs ∷ lists))) (sym (append_assoc before (map f ps) later)) ∙ pieces_from (before ++ map f ps) (n + length ps) (qs ∷ lists) next
+      ap (pieces_at (begins_from (n + length ps) (qs ∷ lists))) (sym (append_assoc before (map f ps) later))
+      ∙ pieces_from (before ++ map f ps) (n + length ps) (qs ∷ lists) next
       in
-      ap (pieces_at (begins_from n (ps ∷ qs ∷ lists))) all ∙ ap (λ xs. xs ∷ pieces_at (begins_from (n + length ps) (qs ∷ lists)) (before ++ (map f ps ++ later))) first
+      ap (pieces_at (begins_from n (ps ∷ qs ∷ lists))) all
+      ∙ ap (λ xs. xs ∷ pieces_at (begins_from (n + length ps) (qs ∷ lists)) (before ++ (map f ps ++ later))) first
       ∙ ap (λ xss. map f ps ∷ xss) rest
 
   pub pieces_are : (begins numbers : List ℕ) (lists : List (List Prop)) → numbers ≡ map f (all_props lists) → length begins ≡ length lists
       → ((i : ℕ) → i < length lists → slice_index begins i ≡ length (all_props (take i lists))) → pieces_at begins numbers ≡ map (map f) lists
   pieces_are begins numbers lists are count each =
-      ap (λ ns. pieces_at begins ns) are ∙ ap (λ bs. pieces_at bs (map f (all_props lists))) (begins_are 0 begins lists count (λ i within. each i within ∙ omega arith)) ∙ pieces_from [] 0 lists refl
+      ap (λ ns. pieces_at begins ns) are
+      ∙ ap (λ bs. pieces_at bs (map f (all_props lists))) (begins_are 0 begins lists count (λ i within. each i within ∙ omega arith))
+      ∙ pieces_from [] 0 lists refl

@@ -22,7 +22,8 @@ use Rattle.hf_plan.proofs.Lengths.{file_len, length-laid, length-LayBy}
 use Rattle.hf_plan.proofs.OneFile.{one_canon}
 use Rattle.hf_plan.proofs.Places.{bytes_stand}
 
-canon_by : (s : ItemStore) (long : Bool) (total : ℕ) (F : List ℕ) → Valid s → long ≡ nat_le (2 ^ 32) (length (laid own 4 0 s)) → total ≡ length (laid own (offset_width long) 0 s)
+canon_by : (s : ItemStore) (long : Bool) (total : ℕ) (F : List ℕ) → Valid s → long ≡ nat_le (2 ^ 32) (length (laid own 4 0 s))
+    → total ≡ length (laid own (offset_width long) 0 s)
     → F ≡ laid own (offset_width long) total s → Canon s F × Lay s (offset_width long) F
 canon_by s true total F valid long e made =
     let at : total ≡ file_len own 8 s = e ∙ length-laid own 8 0 s in

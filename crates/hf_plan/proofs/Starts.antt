@@ -27,7 +27,8 @@ starts_first s total outer starts none is = record {
 
 -- the bytes up to an item and its own are among all
 pub bytes_within : (s : ItemStore) (k : ℕ) (i : Item) → slice_get s.items k ≡ Some i
-    → ((counts_before k s.items).idat + (counts_of_item i).idat ≤ (counts_of s).idat) × ((counts_before k s.items).mdat + (counts_of_item i).mdat ≤ (counts_of s).mdat)
+    → ((counts_before k s.items).idat + (counts_of_item i).idat ≤ (counts_of s).idat)
+    × ((counts_before k s.items).mdat + (counts_of_item i).mdat ≤ (counts_of s).mdat)
 bytes_within s k i here =
     let more = one_more_before_the_next s.items k i here in
     let rest = rest_is_behind s (k + 1) in (

@@ -38,7 +38,8 @@ pub record IsOfFile (s : ItemStore) (p : Planned) (F : List ℕ) : Type 0 where
   pub meta : length (box (four "meta") (meta_body own (offset_width p.long) (length F) s)) ≡ p.sizes.meta
   pub iloc : length (box (four "iloc") (iloc_body p.wide (offset_width p.long) (entries_of own (length F) s.items))) ≡ p.sizes.iloc
   -- the bytes of each item stand where the plan says
-  pub start : (i n : ℕ) (item : Item) → slice_get s.items i ≡ Some item → slice_get p.starts i ≡ Some (Some n) → StandsAt n item.bytes (source_of F s.items item)
+  pub start : (i n : ℕ) (item : Item) → slice_get s.items i ≡ Some item → slice_get p.starts i ≡ Some (Some n)
+      → StandsAt n item.bytes (source_of F s.items item)
 
 abbrev pub PlanIsCanon : Type 0
 PlanIsCanon = (s : ItemStore) (p : Planned) (F : List ℕ) → Valid s → IsPlan s p → Canon s F → IsOfFile s p F
