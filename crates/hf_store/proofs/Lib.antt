@@ -38,4 +38,5 @@ pub mod Spots
 pub mod Tables
 pub mod Tallied
 pub mod Uses
+pub mod ValidPairs
 pub mod ValidStores

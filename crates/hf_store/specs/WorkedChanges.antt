@@ -1,8 +1,8 @@
--- Worked stores of which an item is removed, and in which an item needs another.
+-- Worked stores that are changed, of which an item is removed, and in which an item needs another.
 use Prim.Native.String.{String}
-use Rattle.std.specs.Prelude.{ℕ, true, List, [], ◌∷◌, codes}
+use Rattle.std.specs.Prelude.{ℕ, true, false, List, [], ◌∷◌, codes}
 use Rattle.hf_box.specs.Literals.{four, hex_of}
-use Rattle.hf_store.specs.Store.{RefList, Group, ItemStore}
+use Rattle.hf_store.specs.Store.{RefList, Item, Group, ItemStore}
 use Rattle.hf_store.specs.WorkedStores.{heic, plain, essential, four_by_four, references}
 
 -- a group of alternatives with these entities and nothing after them
@@ -86,3 +86,51 @@ needed_by_three = record {
       ∷ [];
   groups = [];
 }
+
+-- a picture that has a name and is turned
+abbrev pub named : Item
+named = record (plain 1 "hvc1" (hex_of "aabbcc")) { name = codes "IMG"; props = essential "irot" (hex_of "01") ∷ four_by_four ∷ [] }
+
+-- another one of the same size, which is hidden and leads to the first
+abbrev pub sized : Item
+sized = record (plain 2 "hvc1" (hex_of "dd")) { hidden = true; props = four_by_four ∷ []; refs = references "auxl" (1 ∷ []) ∷ [] }
+
+-- metadata of both
+abbrev pub described : List ℕ → Item
+described ids = record (plain 3 "Exif" (hex_of "00000000 45")) { name = codes "X"; refs = references "cdsc" ids ∷ [] }
+
+-- items with a primary one among them, and a group of these entities
+abbrev pub grouped : ℕ → List Item → List ℕ → ItemStore
+grouped primary items entities = record { brands = heic; primary = primary; items = items; groups = alternatives 10 entities ∷ [] }
+
+-- two pictures in a group, and their metadata
+unfoldable pub described_pair : ItemStore
+described_pair = grouped 1 (named ∷ sized ∷ described (1 ∷ 2 ∷ []) ∷ []) (1 ∷ 2 ∷ [])
+
+-- the same with the second picture as the primary item
+unfoldable pub pair_of_second : ItemStore
+pair_of_second = grouped 2 (named ∷ sized ∷ described (1 ∷ 2 ∷ []) ∷ []) (1 ∷ 2 ∷ [])
+
+-- the same with the second picture shown
+unfoldable pub pair_shown : ItemStore
+pair_shown = grouped 1 (named ∷ record sized { hidden = false } ∷ described (1 ∷ 2 ∷ []) ∷ []) (1 ∷ 2 ∷ [])
+
+-- the same without names
+unfoldable pub pair_unnamed : ItemStore
+pair_unnamed = grouped 1 (record named { name = [] } ∷ sized ∷ record (described (1 ∷ 2 ∷ [])) { name = [] } ∷ []) (1 ∷ 2 ∷ [])
+
+-- the same with the second picture turned, and without its size
+unfoldable pub pair_turned : ItemStore
+pair_turned = grouped 1 (named ∷ record sized { props = essential "irot" (hex_of "01") ∷ [] } ∷ described (1 ∷ 2 ∷ []) ∷ []) (1 ∷ 2 ∷ [])
+
+-- the same with the first picture not turned
+unfoldable pub pair_upright : ItemStore
+pair_upright = grouped 1 (record named { props = four_by_four ∷ [] } ∷ sized ∷ described (1 ∷ 2 ∷ []) ∷ []) (1 ∷ 2 ∷ [])
+
+-- the same and one more picture
+unfoldable pub pair_and_one : ItemStore
+pair_and_one = grouped 1 (named ∷ sized ∷ described (1 ∷ 2 ∷ []) ∷ plain 4 "hvc1" (hex_of "ee") ∷ []) (1 ∷ 2 ∷ [])
+
+-- the first picture and its metadata alone
+unfoldable pub first_described : ItemStore
+first_described = grouped 1 (named ∷ described (1 ∷ []) ∷ []) (1 ∷ [])

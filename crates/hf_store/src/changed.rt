@@ -1,10 +1,12 @@
 //! Worked edits: what is left of a store, and why an edit is refused. Each is the contract of a function that does nothing.
 
-ghost use Rattle.std.specs.Prelude.{◌≡◌, None, Some, [], ◌∷◌};
+ghost use Rattle.std.specs.Prelude.{◌≡◌, false, None, Some, [], ◌∷◌};
+ghost use Rattle.hf_box.specs.Literals.{four, hex_of};
 ghost use Rattle.hf_store.specs.BadStores.{primary_of_none};
-ghost use Rattle.hf_store.specs.Changes.{id_at, Needs, Remove, removed, step, why};
-ghost use Rattle.hf_store.specs.WorkedChanges.{needed_by_three, second_gone, second_in_all, third_refers, third_to_second};
-ghost use Rattle.hf_store.specs.WorkedStores.{identity_item, one_picture, photograph, references, two_pictures};
+ghost use Rattle.hf_store.specs.Changes.{added, id_at, kept_only, Needs, Remove, removed, step, why, with_hidden, with_primary, with_props, without_names, without_props};
+ghost use Rattle.hf_store.specs.WorkedChanges.{described_pair, first_described, needed_by_three, pair_and_one, pair_of_second, pair_shown, pair_turned, pair_unnamed, pair_upright, second_gone, second_in_all, third_refers, third_to_second};
+ghost use Rattle.hf_store.specs.WorkedStores.{essential, identity_item, one_picture, photograph, plain, references, two_pictures};
+ghost use Rattle.hf_store.specs.Valid.{Valid};
 ghost use Rattle.hf_store.specs.declared.reason.Reason.TheVariants.{IsPrimary, Needed, NoItem};
 
 /// An item goes, and its id from all references and groups: lists and groups that have nothing
@@ -46,4 +48,30 @@ pub fn first_reason_is_given()
     ensures metadata { why photograph (Remove 51) ≡ None }
     ensures primary_that_is_needed { why identity_item (Remove 1) ≡ Some IsPrimary }
     ensures primary_that_is_none { why primary_of_none (Remove 2) ≡ Some NoItem }
+{}
+
+/// Two pictures in a group and their metadata, and each store that a change makes of them, are valid.
+pub fn changed_pairs_are_valid()
+    ensures pair { Valid described_pair }
+    ensures primary { Valid pair_of_second }
+    ensures shown { Valid pair_shown }
+    ensures unnamed { Valid pair_unnamed }
+    ensures turned { Valid pair_turned }
+    ensures upright { Valid pair_upright }
+    ensures added { Valid pair_and_one }
+    ensures left { Valid first_described }
+{}
+
+/// A change touches what it names, and no other item.
+pub fn one_part_changes()
+    ensures primary { with_primary 2 described_pair ≡ pair_of_second }
+    ensures shown { with_hidden 1 false described_pair ≡ pair_shown }
+    ensures unnamed { without_names described_pair ≡ pair_unnamed }
+    ensures turned { with_props 1 (essential "irot" (hex_of "01") ∷ []) described_pair ≡ pair_turned }
+    ensures upright { without_props 0 (four "irot") described_pair ≡ pair_upright }
+    ensures absent { without_props 1 (four "irot") described_pair ≡ described_pair }
+    ensures added { added (plain 4 "hvc1" (hex_of "ee")) described_pair ≡ pair_and_one }
+    ensures left { kept_only (1 ∷ 3 ∷ []) described_pair ≡ first_described }
+    ensures removed { removed 2 described_pair ≡ first_described }
+    ensures all { kept_only (1 ∷ 2 ∷ 3 ∷ []) described_pair ≡ described_pair }
 {}
