@@ -33,7 +33,7 @@ use Rattle.hf_store.proofs.Bodies.{body_sum-cons}
 use Rattle.hf_store.proofs.Spots.{holds_here, id_here, get_map, some_is}
 use Rattle.hf_plan.specs.Plan.{start_of, sizes_of, Planned, IsPlan}
 use Rattle.hf_plan.proofs.Bounds.{ids_below, in_below, count_fits, file_len-bound}
-use Rattle.hf_plan.proofs.Counts.{length-mdat_body, located-le, is_written, written-plain}
+use Rattle.hf_write.proofs.Counts.{length-mdat_body, located-le, is_written, written-plain}
 use Rattle.hf_plan.specs.Canon.{Canon}
 use Rattle.hf_plan.proofs.Plans.{plan_finds}
 use Rattle.hf_plan.proofs.Lengths.{file_len, length-laid}

@@ -1,4 +1,5 @@
 pub mod Chains
+pub mod Counts
 pub mod Files
 pub mod Infos
 pub mod Made
