@@ -1,4 +1,4 @@
-use Rattle.std.proofs.Common.{◌<◌, arith}
+use Rattle.std.proofs.Common.{arith}
 use Rattle.hf_plan.proofs.TestStores.{second_number, two_starts}
 use Rattle.hf_plan.proofs.tests.a_plan_is_made.Goals as goal
 
