@@ -8,5 +8,6 @@ pub mod LongOffsets
 pub mod Places
 pub mod Plan
 pub mod Seen
+pub mod TestStores
 pub mod Unwritten
 pub mod WorkedPlans
