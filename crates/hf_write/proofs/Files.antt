@@ -1,141 +1,56 @@
 -- What the whole file is made of.
-use Rattle.std.proofs.Common.{◌≡◌, ℕ, zero, suc, ◌+◌, ◌*◌, ◌^◌, ◌<◌, ◌≤◌, Bool, true, false, cond, List, [], ◌∷◌, ◌++◌, length, map, refl, sym, ap, ◌∙◌, append_assoc, arith, inl, inr, Option, Some, None}
-use Rattle.std.specs.Prelude.{slice_get, nat_le}
+use Rattle.std.proofs.Common.{◌≡◌, ℕ, ◌+◌, ◌*◌, ◌^◌, ◌<◌, Bool, true, false, cond, ltb, List, [], ◌∷◌, ◌++◌, length, map, refl, sym, ap, ◌∙◌, append_assoc, arith, inl, inr, Option, Some, None}
+use Rattle.std.specs.Prelude.{slice_get, ◌==◌}
 use Rattle.std.specs.List.{flat_map, filter}
-use Rattle.std.proofs.lemmas.Bool.{cases_Bool, leb-false}
-use Rattle.std.proofs.lemmas.List.{append-nil, length-map}
-use Rattle.std.proofs.lemmas.Nat.{mul-le}
+use Rattle.std.proofs.lemmas.Bool.{cases_Bool, eq-eqb}
+use Rattle.std.proofs.lemmas.List.{length-map}
+use Rattle.std.proofs.lemmas.List.Concat.{flat_map-append}
 use Rattle.hf_base.specs.Number.{num}
 use Rattle.hf_base.specs.Reading.{full as full_box}
-use Rattle.hf_base.specs.declared.limits.TheConstants as limits
 use Rattle.hf_base.specs.declared.four.FourCc.{FourCc}
-use Rattle.hf_box.specs.Head.{box, box_len, box_head}
+use Rattle.hf_box.specs.Head.{box, box_head}
 use Rattle.hf_box.specs.Literals.{four}
 use Rattle.hf_box.specs.Written.{bit, id_width, id_version}
 use Rattle.hf_head.specs.Ftyp.{Brands, ftyp_body}
 use Rattle.hf_head.specs.Hdlr.{hdlr_body}
 use Rattle.hf_head.specs.Pitm.{pitm_body}
-use Rattle.hf_store.specs.Store.{Item, ItemStore, ids_of}
 use Rattle.hf_info.specs.Infe.{Info, infe_box}
 use Rattle.hf_info.specs.Iinf.{iinf_body}
+use Rattle.hf_links.specs.Grpl.{group_box, grpl_body}
+use Rattle.hf_links.specs.Iref.{reference_box, iref_body}
 use Rattle.hf_loc.specs.Iloc.{offset_width, iloc_entry, entry_text, iloc_version, iloc_body}
-use Rattle.hf_prop.specs.Iprp.{iprp_body}
-use Rattle.hf_store.specs.Layout.{own, is_wide, has_bytes, with_bytes, in_idat, bytes_in, info_of, infos_of, iprp_of, entry_of, entries_of, mdat_body, mdat_offset, idat_offset, offset_of, box_if_any, meta_front, meta_body, laid}
+use Rattle.hf_prop.specs.Ipma.{ipma_body}
+use Rattle.hf_prop.specs.Iprp.{is_long_table, ipco_body, iprp_body}
 use Rattle.hf_store.specs.Counts.{counts_of}
+use Rattle.hf_store.specs.Layout.{own, is_wide, has_bytes, with_bytes, in_idat, bytes_in, written, has_props, item_boxes, all_boxes, assoc_of, assocs_of, iprp_of, entry_of, entries_of, method_of, mdat_body, offset_of, box_if_any, meta_front, meta_body, laid}
+use Rattle.hf_store.specs.Store.{Item, Group, ItemStore}
+use Rattle.hf_store.specs.Table.{table_of}
+use Rattle.hf_store.specs.Valid.{Valid}
 use Rattle.hf_store.specs.declared.tally.Counts.{Counts}
-use Rattle.hf_store.specs.Valid.{body_sum, IsGoodItem, Valid}
-use Rattle.hf_store.specs.Plain.{IsPlainItem, ArePlain, IsPlain}
-use Rattle.hf_store.proofs.BoxLengths.{length-box, box_len-le, le-box_len}
 use Rattle.hf_store.proofs.CountsAre.{counts_are}
-use Rattle.hf_store.proofs.Lengths.{meta_body_len, length-meta_body, length-iloc_body}
-use Rattle.hf_store.proofs.PlainLengths.{not_in_idat, no_references, none_in_idat, length-iinf_body, front_len, length-meta_front}
-use Rattle.hf_store.proofs.Bodies.{body_sum-cons}
-use Rattle.hf_store.proofs.Spots.{holds_here, id_here, get_map, some_is}
-use Rattle.hf_plan.specs.Plan.{start_of, sizes_of, Planned, IsPlan}
-use Rattle.hf_plan.proofs.Bounds.{ids_below, in_below, count_fits, file_len-bound}
-use Rattle.hf_write.proofs.Counts.{length-mdat_body, located-le, is_written, written-plain}
+use Rattle.hf_store.proofs.Spots.{get_map, some_is}
 use Rattle.hf_plan.specs.Canon.{Canon}
+use Rattle.hf_plan.specs.Plan.{start_of, Planned, IsPlan}
 use Rattle.hf_plan.proofs.Plans.{plan_finds}
-use Rattle.hf_plan.proofs.Lengths.{file_len, length-laid}
-use Rattle.hf_write.proofs.Infos.{infe_small}
-use Rattle.hf_write.specs.Entries.{entry_if_any, planned_entry, bytes_of, meta_begin, meta_end}
+use Rattle.hf_plan.proofs.Readers.{plan_tells_all}
+use Rattle.hf_write.specs.Entries.{entry_if_any, planned_entry, meta_begin, meta_lists, meta_places, bytes_if, refs_text, prop_box, assoc_if_any}
+use Rattle.hf_write.proofs.Fits.{extent_fits}
+use Rattle.hf_write.proofs.Props.{assocs_are}
+use Rattle.hf_write.proofs.Sized.{present}
 
--- ---- numbers fit
-
-pub id_fits : (s : ItemStore) (wide : Bool) (k : ℕ) (i : Item) → Valid s → wide ≡ is_wide s.items → slice_get s.items k ≡ Some i → i.id < 256 ^ id_width wide
-id_fits s wide k i valid e here =
-    rw e (holds_here (λ (id : ℕ). id < 256 ^ id_width (is_wide s.items)) (ids_of s.items) k i.id (ids_below s.items valid.items) (id_here s.items k i here))
-
-pub items_fit : (s : ItemStore) (wide : Bool) → Valid s → wide ≡ is_wide s.items → length s.items < 256 ^ id_width wide
-items_fit s wide valid e = rw e (count_fits s valid)
-
--- the entry of an item in `iinf` is short
-pub infe_few : (s : ItemStore) (wide : Bool) (k : ℕ) (i : Item) → Valid s → IsPlain s → slice_get s.items k ≡ Some i → length (infe_box wide (info_of i)) ≤ limits.META
-infe_few s wide k i valid plain here =
-    let good : IsGoodItem s.items i = holds_here (IsGoodItem s.items) s.items k i valid.items here in
-    infe_small wide i (holds_here IsPlainItem s.items k i plain.items here) good.kind
-
-pub located_fit : (s : ItemStore) (wide : Bool) → Valid s → wide ≡ is_wide s.items → length (with_bytes s.items) < 256 ^ id_width wide
-located_fit s wide valid e = omega (arith, items_fit s wide valid e, located-le s.items)
+-- ---- counts
 
 -- how many items have bytes, as it is counted
 pub located_is : (s : ItemStore) (c : Counts) → c ≡ counts_of s → c.located ≡ length (with_bytes s.items)
 located_is s c e = ap (λ (k : Counts). k.located) e ∙ (counts_are s).located
 
--- ---- sizes
+-- how many have properties
+pub holders_is : (s : ItemStore) (c : Counts) → c ≡ counts_of s → c.holders ≡ length (filter has_props s.items)
+holders_is s c e = ap (λ (k : Counts). k.holders) e ∙ (counts_are s).holders
 
-width_small : (wide : Bool) → id_width wide ≤ 4
-width_small true = omega arith
-width_small false = omega arith
-
-offset_small : (long : Bool) → offset_width long ≤ 8
-offset_small true = omega arith
-offset_small false = omega arith
-
--- a box that a plan counts: its length is known and small
-abbrev pub IsSized : ℕ → List ℕ → Type 0
-IsSized size body = (box_len (length body) ≡ size) × (8 ≤ size) × (size ≤ 2 ^ 62)
-
-sized : (size : ℕ) (body : List ℕ) → box_len (length body) ≡ size → length body ≤ 2 ^ 61 → IsSized size body
-sized size body e few = (e, omega (arith, e, le-box_len (length body)), omega (arith, e, box_len-le (length body)))
-
-iinf_small : (s : ItemStore) → Valid s → IsPlain s → length (iinf_body (is_wide s.items) (infos_of s.items)) ≤ 2 ^ 40
-iinf_small s valid plain =
-    let w = id_width (is_wide s.items) in
-    omega (arith, length-iinf_body (is_wide s.items) s.items s.items plain.items valid.items, width_small (is_wide s.items), mul-le (length s.items) (19 + w) limits.ITEMS 23 valid.count (omega (arith, width_small (is_wide s.items))))
-
-iloc_small : (s : ItemStore) (long : Bool) (end : ℕ) → Valid s → length (iloc_body (is_wide s.items) (offset_width long) (entries_of own end s.items)) ≤ 2 ^ 40
-iloc_small s long end valid =
-    let w = id_width (is_wide s.items) in
-    let o = offset_width long in
-    omega (arith, length-iloc_body own (is_wide s.items) o end s.items, width_small (is_wide s.items), mul-le (length (with_bytes s.items)) (6 + w + (o + o)) limits.ITEMS 26 (omega (arith, located-le s.items, valid.count)) (omega (arith, width_small (is_wide s.items), offset_small long)))
-
-pub iinf_sized : (s : ItemStore) (p : Planned) → Valid s → IsPlain s → IsPlan s p → IsSized p.sizes.iinf (iinf_body (is_wide s.items) (infos_of s.items))
-unfolding sizes_of
-iinf_sized s p valid plain plan =
-    let size : p.sizes.iinf ≡ length (box (four "iinf") (iinf_body (is_wide s.items) (infos_of s.items))) = ap (λ z. z.iinf) plan.sizes in
-    sized p.sizes.iinf (iinf_body (is_wide s.items) (infos_of s.items)) (sym (size ∙ length-box (four "iinf") (iinf_body (is_wide s.items) (infos_of s.items)) refl)) (omega (arith, iinf_small s valid plain))
-
-pub iloc_sized : (s : ItemStore) (p : Planned) → Valid s → IsPlan s p → IsSized p.sizes.iloc (iloc_body (is_wide s.items) (offset_width p.long) (entries_of own p.total s.items))
-unfolding sizes_of
-iloc_sized s p valid plan =
-    let w = offset_width p.long in
-    let wide = is_wide s.items in
-    let size : p.sizes.iloc ≡ length (box (four "iloc") (iloc_body wide w (entries_of own 0 s.items))) = ap (λ z. z.iloc) plan.sizes in
-    let same : length (iloc_body wide w (entries_of own 0 s.items)) ≡ length (iloc_body wide w (entries_of own p.total s.items)) = length-iloc_body own wide w 0 s.items ∙ sym (length-iloc_body own wide w p.total s.items) in
-    sized p.sizes.iloc (iloc_body wide w (entries_of own p.total s.items)) (sym (size ∙ length-box (four "iloc") (iloc_body wide w (entries_of own 0 s.items)) refl ∙ ap box_len same)) (omega (arith, iloc_small s p.long p.total valid))
-
-pub mdat_sized : (s : ItemStore) (p : Planned) → Valid s → IsPlain s → IsPlan s p → IsSized p.sizes.mdat (mdat_body own s.items)
-unfolding sizes_of
-mdat_sized s p valid plain plan =
-    let size : p.sizes.mdat ≡ length (box (four "mdat") (mdat_body own s.items)) = ap (λ z. z.mdat) plan.sizes in
-    sized p.sizes.mdat (mdat_body own s.items) (sym (size ∙ length-box (four "mdat") (mdat_body own s.items) refl)) (omega (arith, length-mdat_body s.items plain.items, valid.body))
-
-pub meta_sized : (s : ItemStore) (p : Planned) → Valid s → IsPlain s → IsPlan s p → IsSized p.sizes.meta (meta_body own (offset_width p.long) p.total s)
-unfolding sizes_of meta_body_len front_len
-meta_sized s p valid plain plan =
-    let w = offset_width p.long in
-    let v = id_width (is_wide s.items) in
-    let size : p.sizes.meta ≡ length (box (four "meta") (meta_body own w 0 s)) = ap (λ z. z.meta) plan.sizes in
-    let same : length (meta_body own w 0 s) ≡ length (meta_body own w p.total s) = length-meta_body own w 0 s ∙ sym (length-meta_body own w p.total s) in
-    let iinf = length-iinf_body (is_wide s.items) s.items s.items plain.items valid.items in
-    let iloc = length-iloc_body own (is_wide s.items) w p.total s.items in
-    let small : length (meta_body own w p.total s) ≤ 2 ^ 61 =
-    omega (
-      arith,
-      length-meta_body own w p.total s,
-      length-meta_front s valid.items plain,
-      width_small (is_wide s.items),
-      box_len-le (4 + v),
-      box_len-le (4 + v + length s.items * (19 + v)),
-      box_len-le (6 + v + length (with_bytes s.items) * (6 + v + (w + w))),
-      iinf,
-      iinf_small s valid plain,
-      iloc,
-      iloc_small s p.long p.total valid,
-    )
-    in
-    sized p.sizes.meta (meta_body own w p.total s) (sym (size ∙ length-box (four "meta") (meta_body own w 0 s) refl ∙ ap box_len same)) small
+-- whether associations take two bytes
+pub long_is : (s : ItemStore) (p : Planned) (kinds : ℕ) → IsPlan s p → kinds ≡ length p.firsts → ltb 127 kinds ≡ is_long_table (table_of s)
+long_is s p kinds plan e = ap (ltb 127) (e ∙ (plan_tells_all s p plan).kinds)
 
 -- ---- boxes, from their parts
 
@@ -183,25 +98,119 @@ iloc_whole s p v l count body hv hl hcount hbody =
     ∙ ap (made (length (iloc_body p.wide w (entries_of own p.total s.items))) (front p.wide w (length entries))) (entries_are p.wide w p.total s.items s.items)
     ∙ box_parts (four "iloc") (iloc_body p.wide w (entries_of own p.total s.items))
 
-no_bytes : (bytes : List ℕ) → has_bytes bytes ≡ false → bytes ≡ []
-no_bytes [] e = refl
-no_bytes (b ∷ bs) e = absurd cc
+-- ---- bytes
 
-bodies_are : (is : List Item) → ArePlain is → flat_map bytes_of is ≡ bytes_in (filter is_written is)
+none_is : (bytes : List ℕ) → has_bytes bytes ≡ false → [] ≡ bytes
+none_is [] e = refl
+none_is (b ∷ bs) e = absurd cc
+
+pub outer_are : (is : List Item) → flat_map (bytes_if false) is ≡ bytes_in (written own is)
 unfolding bytes_in
-bodies_are [] plain = refl
-bodies_are (i ∷ is) plain =
-    let rest = bodies_are is plain.1 in
+outer_are [] = refl
+outer_are (i ∷ is) =
+    let rest = outer_are is in
+    let self : (i.id == i.id) ≡ true = eq-eqb i.id i.id refl in
     elim (cases_Bool (has_bytes i.bytes)) [
-      | inl some ↦ rw (written-plain i plain.0, some) (ap (λ (l : List ℕ). i.bytes ++ l) rest)
-      | inr none ↦ rw (written-plain i plain.0, none) (ap (λ (l : List ℕ). l ++ flat_map bytes_of is) (no_bytes i.bytes none) ∙ rest)
+      | inl some ↦ elim (cases_Bool (in_idat i)) [
+        | inl inner ↦ rw (inner, some) rest
+        | inr outer ↦ rw (outer, some, self) (ap (λ (l : List ℕ). i.bytes ++ l) rest)
+      ]
+      | inr none ↦ elim (cases_Bool (in_idat i)) [
+        | inl inner ↦ rw (inner, none) rest
+        | inr outer ↦ rw (outer, none) (ap (λ (l : List ℕ). l ++ flat_map (bytes_if false) is) (sym (none_is i.bytes none)) ∙ rest)
+      ]
     ]
 
-pub mdat_whole : (s : ItemStore) (body : ℕ) → IsPlain s → body ≡ length (mdat_body own s.items) → box_head (four "mdat") body ++ flat_map bytes_of s.items ≡ box (four "mdat") (mdat_body own s.items)
-mdat_whole s body plain hbody =
-    ap (λ (n : ℕ). box_head (four "mdat") n ++ flat_map bytes_of s.items) hbody
-    ∙ ap (λ (l : List ℕ). box_head (four "mdat") (length (mdat_body own s.items)) ++ l) (bodies_are s.items plain.items)
-    ∙ box_parts (four "mdat") (mdat_body own s.items)
+pub inner_are : (is : List Item) → flat_map (bytes_if true) is ≡ bytes_in (filter in_idat is)
+unfolding bytes_in
+inner_are [] = refl
+inner_are (i ∷ is) =
+    let rest = inner_are is in
+    elim (cases_Bool (in_idat i)) [
+      | inl inner ↦ rw inner (ap (λ (l : List ℕ). i.bytes ++ l) rest)
+      | inr outer ↦ rw outer rest
+    ]
+
+pub mdat_whole : (s : ItemStore) → box_head (four "mdat") (length (mdat_body own s.items)) ++ flat_map (bytes_if false) s.items ≡ box (four "mdat") (mdat_body own s.items)
+mdat_whole s = ap (λ (l : List ℕ). box_head (four "mdat") (length (mdat_body own s.items)) ++ l) (outer_are s.items) ∙ box_parts (four "mdat") (mdat_body own s.items)
+
+pub idat_whole : (s : ItemStore) (size : ℕ) → size ≡ length (box_if_any (four "idat") bytes_in (filter in_idat s.items)) → (size ≡ 0 → ⊥)
+    → box_head (four "idat") (length (bytes_in (filter in_idat s.items))) ++ flat_map (bytes_if true) s.items ≡ box_if_any (four "idat") bytes_in (filter in_idat s.items)
+idat_whole s size is some =
+    let body = bytes_in (filter in_idat s.items) in
+    ap (λ (l : List ℕ). box_head (four "idat") (length body) ++ l) (inner_are s.items) ∙ box_parts (four "idat") body ∙ present (four "idat") bytes_in (filter in_idat s.items) size is some
+
+-- ---- lists
+
+grpl_parts : (gs : List Group) → box_head (four "grpl") (length (grpl_body gs)) ++ flat_map group_box gs ≡ box (four "grpl") (grpl_body gs)
+unfolding grpl_body
+grpl_parts gs = box_parts (four "grpl") (grpl_body gs)
+
+pub grpl_whole : (s : ItemStore) (size : ℕ) → size ≡ length (box_if_any (four "grpl") grpl_body s.groups) → (size ≡ 0 → ⊥)
+    → box_head (four "grpl") (length (grpl_body s.groups)) ++ flat_map group_box s.groups ≡ box_if_any (four "grpl") grpl_body s.groups
+grpl_whole s size is some = grpl_parts s.groups ∙ present (four "grpl") grpl_body s.groups size is some
+
+refs_are : (wide : Bool) (is : List Item) → flat_map (refs_text wide) is ≡ flat_map (reference_box wide) (all_boxes is)
+refs_are wide [] = refl
+refs_are wide (i ∷ is) = ap (λ (l : List ℕ). refs_text wide i ++ l) (refs_are wide is) ∙ sym (flat_map-append (reference_box wide) (item_boxes i.id i.refs) (all_boxes is))
+
+iref_parts : (wide : Bool) (is : List Item) → box_head (four "iref") (length (iref_body wide (all_boxes is))) ++ (full_box (id_version wide) 0 ++ flat_map (refs_text wide) is) ≡ box (four "iref") (iref_body wide (all_boxes is))
+unfolding iref_body
+iref_parts wide is =
+    ap (λ (l : List ℕ). box_head (four "iref") (length (iref_body wide (all_boxes is))) ++ (full_box (id_version wide) 0 ++ l)) (refs_are wide is) ∙ box_parts (four "iref") (iref_body wide (all_boxes is))
+
+pub iref_whole : (s : ItemStore) (wide : Bool) (size : ℕ) (front : List ℕ) → wide ≡ is_wide s.items → front ≡ full_box (id_version wide) 0
+    → size ≡ length (box_if_any (four "iref") (iref_body (is_wide s.items)) (all_boxes s.items)) → (size ≡ 0 → ⊥)
+    → box_head (four "iref") (length (iref_body (is_wide s.items) (all_boxes s.items))) ++ (front ++ flat_map (refs_text wide) s.items) ≡ box_if_any (four "iref") (iref_body (is_wide s.items)) (all_boxes s.items)
+iref_whole s wide size front e f is some =
+    let n = length (iref_body (is_wide s.items) (all_boxes s.items)) in
+    ap (λ (l : List ℕ). box_head (four "iref") n ++ (l ++ flat_map (refs_text wide) s.items)) f
+    ∙ ap (λ (v : Bool). box_head (four "iref") n ++ (full_box (id_version v) 0 ++ flat_map (refs_text v) s.items)) e
+    ∙ iref_parts (is_wide s.items) s.items ∙ present (four "iref") (iref_body (is_wide s.items)) (all_boxes s.items) size is some
+
+-- ---- properties
+
+pub prop_whole : (kind : FourCc) (slice body : List ℕ) → slice ≡ body → box_head kind (length slice) ++ slice ≡ box kind body
+prop_whole kind slice body e = ap (λ (l : List ℕ). box_head kind (length l) ++ l) e ∙ box_parts kind body
+
+pub version_cells : (wide : Bool) → id_version wide ∷ 0 ∷ 0 ∷ 0 ∷ [] ≡ full_box (id_version wide) 0
+unfolding num
+version_cells true = refl
+version_cells false = refl
+
+pub ipma_cells : (wide long : Bool) → id_version wide ∷ 0 ∷ 0 ∷ bit long ∷ [] ≡ full_box (id_version wide) (bit long)
+unfolding num
+ipma_cells true true = refl
+ipma_cells true false = refl
+ipma_cells false true = refl
+ipma_cells false false = refl
+
+pub ipco_whole : (s : ItemStore) → box_head (four "ipco") (length (ipco_body (table_of s))) ++ flat_map prop_box (table_of s) ≡ box (four "ipco") (ipco_body (table_of s))
+unfolding ipco_body
+ipco_whole s = box_parts (four "ipco") (ipco_body (table_of s))
+
+pub ipma_whole : (s : ItemStore) (p : Planned) (wide long : Bool) (count : ℕ) (front : List ℕ) → wide ≡ p.wide → long ≡ is_long_table (table_of s) → count ≡ length (filter has_props s.items)
+    → front ≡ full_box (id_version wide) (bit long) ++ num count 4
+    → box_head (four "ipma") (length (ipma_body p.wide (is_long_table (table_of s)) (assocs_of (table_of s) s.items))) ++ (front ++ flat_map (assoc_if_any p.wide long (table_of s)) s.items)
+    ≡ box (four "ipma") (ipma_body p.wide (is_long_table (table_of s)) (assocs_of (table_of s) s.items))
+unfolding ipma_body
+ipma_whole s p wide long count front hw hl hc hf =
+    let table = table_of s in
+    let assocs = assocs_of table s.items in
+    let head = box_head (four "ipma") (length (ipma_body p.wide (is_long_table table) assocs)) in
+    let counted : count ≡ length assocs = hc ∙ sym (length-map (filter has_props s.items) (assoc_of table)) in
+    ap (λ (l : List ℕ). head ++ (l ++ flat_map (assoc_if_any p.wide long table) s.items)) hf
+    ∙ ap (λ (v : Bool). head ++ ((full_box (id_version v) (bit long) ++ num count 4) ++ flat_map (assoc_if_any p.wide long table) s.items)) hw
+    ∙ ap (λ (b : Bool). head ++ ((full_box (id_version p.wide) (bit b) ++ num count 4) ++ flat_map (assoc_if_any p.wide b table) s.items)) hl
+    ∙ ap (λ (n : ℕ). head ++ ((full_box (id_version p.wide) (bit (is_long_table table)) ++ num n 4) ++ flat_map (assoc_if_any p.wide (is_long_table table) table) s.items)) counted
+    ∙ ap (λ (l : List ℕ). head ++ ((full_box (id_version p.wide) (bit (is_long_table table)) ++ num (length assocs) 4) ++ l)) (assocs_are p.wide (is_long_table table) table s.items)
+    ∙ box_parts (four "ipma") (ipma_body p.wide (is_long_table table) assocs)
+
+pub iprp_whole : (s : ItemStore) (p : Planned) → IsPlan s p
+    → box_head (four "iprp") (length (iprp_body p.wide (iprp_of s))) ++ (box (four "ipco") (ipco_body (table_of s)) ++ box (four "ipma") (ipma_body p.wide (is_long_table (table_of s)) (assocs_of (table_of s) s.items)))
+    ≡ box (four "iprp") (iprp_body p.wide (iprp_of s))
+unfolding iprp_body
+iprp_whole s p plan = box_parts (four "iprp") (iprp_body p.wide (iprp_of s))
 
 -- ---- entries of iloc
 
@@ -217,40 +226,21 @@ no_start : (has : Bool) (at : ℕ) → cond has (Some at) None ≡ None → has 
 no_start true at e = absurd cc
 no_start false at e = refl
 
-bytes-le : (is : List Item) (k : ℕ) (i : Item) → slice_get is k ≡ Some i → length i.bytes ≤ body_sum is
-bytes-le [] k i e = absurd cc
-bytes-le (j ∷ js) zero i e = omega (arith, body_sum-cons j js, ap (λ (x : Item). length x.bytes) (some_is e))
-bytes-le (j ∷ js) (suc k) i e = omega (arith, body_sum-cons j js, bytes-le js k i e)
-
-by_width : (long : Bool) (s : ItemStore) (total : ℕ) → Valid s → long ≡ nat_le (2 ^ 32) (length (laid own 4 0 s)) → total ≡ length (laid own (offset_width long) 0 s) → total < 256 ^ offset_width long
-by_width true s total valid long e = omega (arith, e, length-laid own 8 0 s, file_len-bound own s valid)
-by_width false s total valid long e = omega (arith, e, leb-false _ _ (sym long))
-
-total_fits : (s : ItemStore) (p : Planned) → Valid s → IsPlan s p → p.total < 256 ^ offset_width p.long
-total_fits s p valid plan = by_width p.long s p.total valid plan.long plan.total
-
-body_within : (s : ItemStore) (p : Planned) → IsPlain s → IsPlan s p → body_sum s.items ≤ p.total
-unfolding file_len
-body_within s p plain plan =
-    omega (arith, plan.total, length-laid own (offset_width p.long) 0 s, length-mdat_body s.items plain.items, le-box_len (length (mdat_body own s.items)))
-
 -- the offset and the length fit, and the two parts are the entry
 pub record IsEntry (s : ItemStore) (p : Planned) (i : Item) (o : ℕ) : Type 0 where
   pub offset : o < 256 ^ offset_width p.long
   pub len : length i.bytes < 256 ^ offset_width p.long
-  pub bytes : planned_entry s p i ≡ iloc_entry p.wide (offset_width p.long) i.id 0 o (length i.bytes)
+  pub bytes : planned_entry s p i ≡ iloc_entry p.wide (offset_width p.long) i.id (method_of i) o (length i.bytes)
 
-pub entry_there : (s : ItemStore) (p : Planned) (k : ℕ) (i : Item) (o : ℕ) → Valid s → IsPlain s → IsPlan s p → slice_get s.items k ≡ Some i → slice_get p.starts k ≡ Some (Some o) → IsEntry s p i o
-entry_there s p k i o valid plain plan here there =
+pub entry_there : (s : ItemStore) (p : Planned) (k : ℕ) (i : Item) (o : ℕ) → Valid s → IsPlan s p → slice_get s.items k ≡ Some i → slice_get p.starts k ≡ Some (Some o) → IsEntry s p i o
+entry_there s p k i o valid plan here there =
     let w = offset_width p.long in
-    let outside : in_idat i ≡ false = not_in_idat i (holds_here IsPlainItem s.items k i plain.items here) in
     let start = some_start (has_bytes i.bytes) (offset_of own p.total s.items i) o (start_there s p k i (Some o) plan here there) in
-    let fits = total_fits s p valid plan in
-    let at : mdat_offset own p.total s.items i ≡ o = (ap (λ b. cond b (idat_offset s.items i) (mdat_offset own p.total s.items i)) (sym outside)) ∙ start.1 in
+    let fits = extent_fits s p k i valid plan here start.0 in
     record {
-      offset = omega (arith, at, fits);
-      len = omega (arith, bytes-le s.items k i here, body_within s p plain plan, fits);
-      bytes = ap (λ b. cond b (entry_text p.wide w (entry_of own p.total s.items i)) []) start.0 ∙ ap (λ (n : ℕ). iloc_entry p.wide w i.id n (offset_of own p.total s.items i) (length i.bytes)) (ap bit outside) ∙ ap (λ (n : ℕ). iloc_entry p.wide w i.id 0 n (length i.bytes)) start.1;
+      offset = omega (arith, start.1, fits.offset);
+      len = fits.length;
+      bytes = ap (λ b. cond b (entry_text p.wide w (entry_of own p.total s.items i)) []) start.0 ∙ ap (λ (n : ℕ). iloc_entry p.wide w i.id (method_of i) n (length i.bytes)) start.1;
     }
 
 pub no_entry : (s : ItemStore) (p : Planned) (k : ℕ) (i : Item) → IsPlan s p → slice_get s.items k ≡ Some i → slice_get p.starts k ≡ Some None → [] ≡ planned_entry s p i
@@ -258,30 +248,25 @@ no_entry s p k i plan here there =
     let none = no_start (has_bytes i.bytes) (offset_of own p.total s.items i) (start_there s p k i None plan here there) in
     ap (λ b. cond b (entry_text p.wide (offset_width p.long) (entry_of own p.total s.items i)) []) (sym none)
 
-pub entry_whole : (s : ItemStore) (p : Planned) (i : Item) (v l : Bool) (o len : ℕ) → IsEntry s p i o → v ≡ p.wide → l ≡ p.long → len ≡ length i.bytes
-    → iloc_entry v (offset_width l) i.id 0 o len ≡ planned_entry s p i
-entry_whole s p i v l o len entry hv hl hlen =
-    let made : Bool → ℕ → ℕ → List ℕ = λ v w n. iloc_entry v w i.id 0 o n in
-    ap (λ (x : Bool). made x (offset_width l) len) hv ∙ ap (λ (x : Bool). made p.wide (offset_width x) len) hl ∙ ap (made p.wide (offset_width p.long)) hlen ∙ sym entry.bytes
+pub entry_whole : (s : ItemStore) (p : Planned) (i : Item) (v l : Bool) (m o len : ℕ) → IsEntry s p i o → v ≡ p.wide → l ≡ p.long → m ≡ method_of i → len ≡ length i.bytes
+    → iloc_entry v (offset_width l) i.id m o len ≡ planned_entry s p i
+entry_whole s p i v l m o len entry hv hl hm hlen =
+    let made : Bool → ℕ → ℕ → ℕ → List ℕ = λ v w m n. iloc_entry v w i.id m o n in
+    ap (λ (x : Bool). made x (offset_width l) m len) hv ∙ ap (λ (x : Bool). made p.wide (offset_width x) m len) hl
+    ∙ ap (λ (x : ℕ). made p.wide (offset_width p.long) x len) hm ∙ ap (made p.wide (offset_width p.long) (method_of i)) hlen ∙ sym entry.bytes
 
 -- ---- meta
 
-meta_body-plain : (s : ItemStore) (w end : ℕ) → IsPlain s → meta_body own w end s
-    ≡ (full_box 0 0 ++ (box (four "hdlr") hdlr_body ++ box (four "pitm") (pitm_body (is_wide s.items) s.primary)))
-    ++ (box (four "iinf") (iinf_body (is_wide s.items) (infos_of s.items)) ++ (box (four "iprp") (iprp_body (is_wide s.items) (iprp_of s)) ++ box (four "iloc") (iloc_body (is_wide s.items) w (entries_of own end s.items))))
-unfolding meta_body meta_front box_if_any
-meta_body-plain s w end plain = rw (no_references s.items plain.items, plain.groups, none_in_idat s.items plain.items) (simp (append_assoc, append-nil))
+meta_parts : (s : ItemStore) (p : Planned) → IsPlan s p → (head begin : List ℕ) → begin ≡ full_box 0 0 ++ (box (four "hdlr") hdlr_body ++ box (four "pitm") (pitm_body (is_wide s.items) s.primary))
+    → (head ++ begin) ++ (meta_lists s p ++ meta_places s p) ≡ head ++ meta_body own (offset_width p.long) p.total s
+unfolding meta_body meta_front
+meta_parts s p plan head begin e = rw (plan.wide, e) (simp (append_assoc) refl)
 
-pub meta_whole : (s : ItemStore) (p : Planned) → IsPlain s → IsPlan s p → meta_begin s p ++ meta_end s p ≡ box (four "meta") (meta_body own (offset_width p.long) p.total s)
-meta_whole s p plain plan =
-    let w = offset_width p.long in
-    let h = box_head (four "meta") (length (meta_body own w p.total s)) in
+pub meta_whole : (s : ItemStore) (p : Planned) → IsPlan s p → meta_begin s p ++ (meta_lists s p ++ meta_places s p) ≡ box (four "meta") (meta_body own (offset_width p.long) p.total s)
+meta_whole s p plan =
+    let body = meta_body own (offset_width p.long) p.total s in
     let begin : Bool → List ℕ = λ v. full_box 0 0 ++ (box (four "hdlr") hdlr_body ++ box (four "pitm") (pitm_body v s.primary)) in
-    let end : Bool → List ℕ = λ v. box (four "iinf") (iinf_body (is_wide s.items) (infos_of s.items)) ++ (box (four "iprp") (iprp_body v (iprp_of s)) ++ box (four "iloc") (iloc_body v w (entries_of own p.total s.items))) in
-    append_assoc h (begin p.wide) (end p.wide)
-    ∙ ap (λ (v : Bool). h ++ (begin v ++ end v)) plan.wide
-    ∙ ap (λ (l : List ℕ). h ++ l) (sym (meta_body-plain s w p.total plain))
-    ∙ box_parts (four "meta") (meta_body own w p.total s)
+    meta_parts s p plan (box_head (four "meta") (length body)) (begin p.wide) (ap begin plan.wide) ∙ box_parts (four "meta") body
 
 pub zeros : 0 ∷ 0 ∷ 0 ∷ 0 ∷ [] ≡ full_box 0 0
 unfolding num
@@ -298,19 +283,12 @@ file_whole s p F valid plan canon =
     sym (append_assoc (box (four "ftyp") (ftyp_body s.brands)) (box (four "meta") (meta_body own w p.total s)) (box (four "mdat") (mdat_body own s.items)))
     ∙ ap (λ (n : ℕ). laid own w n s) (sym found.1) ∙ sym found.0.bytes
 
-pub primary_fits : (s : ItemStore) (wide : Bool) (id : ℕ) → Valid s → wide ≡ is_wide s.items → id ≡ s.primary → id < 256 ^ id_width wide
-primary_fits s wide id valid e same = rw (e, same) (in_below s.primary (256 ^ id_width (is_wide s.items)) (ids_of s.items) valid.primary (ids_below s.items valid.items))
-
 pub begin_is : (s : ItemStore) (p : Planned) (v : Bool) (id body : ℕ) → body ≡ length (meta_body own (offset_width p.long) p.total s) → v ≡ p.wide → id ≡ s.primary
     → box_head (four "meta") body ++ ((0 ∷ 0 ∷ 0 ∷ 0 ∷ []) ++ (box (four "hdlr") hdlr_body ++ box (four "pitm") (pitm_body v id))) ≡ meta_begin s p
 begin_is s p v id body hbody hv hid =
     let made : ℕ → List ℕ → Bool → ℕ → List ℕ = λ n z v id. box_head (four "meta") n ++ (z ++ (box (four "hdlr") hdlr_body ++ box (four "pitm") (pitm_body v id))) in
     ap (λ (n : ℕ). made n (0 ∷ 0 ∷ 0 ∷ 0 ∷ []) v id) hbody ∙ ap (λ (z : List ℕ). made (length (meta_body own (offset_width p.long) p.total s)) z v id) zeros
     ∙ ap (λ (x : Bool). made (length (meta_body own (offset_width p.long) p.total s)) (full_box 0 0) x id) hv ∙ ap (made (length (meta_body own (offset_width p.long) p.total s)) (full_box 0 0) p.wide) hid
-
-pub end_is : (s : ItemStore) (p : Planned) (v : Bool) → v ≡ p.wide
-    → box (four "iinf") (iinf_body (is_wide s.items) (infos_of s.items)) ++ (box (four "iprp") (iprp_body v (iprp_of s)) ++ box (four "iloc") (iloc_body p.wide (offset_width p.long) (entries_of own p.total s.items))) ≡ meta_end s p
-end_is s p v hv = ap (λ (x : Bool). box (four "iinf") (iinf_body (is_wide s.items) (infos_of s.items)) ++ (box (four "iprp") (iprp_body x (iprp_of s)) ++ box (four "iloc") (iloc_body p.wide (offset_width p.long) (entries_of own p.total s.items)))) hv
 
 -- the same, with the brands that the code has
 pub file_by : (s : ItemStore) (p : Planned) (b : Brands) (F : List ℕ) → b ≡ s.brands → Valid s → IsPlan s p → Canon s F

@@ -1,6 +1,7 @@
 pub mod Chains
-pub mod Counts
 pub mod Files
-pub mod Infos
+pub mod Fits
 pub mod Made
+pub mod Props
+pub mod Sized
 pub mod TestStores

@@ -8,19 +8,17 @@ ghost use Rattle.hf_box.specs.Head.{box};
 ghost use Rattle.hf_box.specs.Literals.{four};
 ghost use Rattle.hf_box.specs.Written.{id_width, id_version};
 ghost use Rattle.hf_desk.specs.Outside.{Outside};
-ghost use Rattle.hf_desk.specs.Calls.{Puts};
 ghost use Rattle.hf_desk.specs.Pages.{ByPut, Gives};
 ghost use Rattle.hf_info.specs.Infe.{info_of as shown, infe_box};
 ghost use Rattle.hf_info.specs.Iinf.{iinf_body};
 ghost use Rattle.hf_store.specs.Layout.{is_wide, info_of, infos_of};
-ghost use Rattle.hf_store.specs.Plain.{IsPlain};
 ghost use Rattle.hf_store.specs.Seen.{item_of};
 ghost use Rattle.hf_plan.specs.Plan.{IsPlan};
 
-use crate::header::{body_of, put_header};
+use crate::header::give_header;
 use hf_base::be_put;
 use hf_base::kinds::IINF;
-use hf_desk::{Desk, Page, Put, WriteFault, put_all};
+use hf_desk::{Desk, Page, Put, WriteFault};
 use hf_info::{Info, give_infe};
 use hf_plan::Plan;
 use hf_store::{Item, Store};
@@ -49,7 +47,6 @@ fn give_infes<D: Desk>(
 ) -> Result<(), WriteFault>
     requires creating { (D.outside desk.old).creating ≡ true }
     requires wide { wide ≡ is_wide store.now.items }
-    requires plain { IsPlain store.now }
     ensures { Gives ByPut (D.outside desk.old) page.old (flat_map (infe_box wide) (infos_of store.now.items)) result (D.outside desk.new) page.new }
 {
     for i in 0..store.len() {
@@ -57,18 +54,6 @@ fn give_infes<D: Desk>(
         give_infe(&info, wide, page, desk)?;
     }
     Ok(())
-}
-
-/// Puts the entries of all items.
-fn put_infes<D: Desk>(store: &Store<'_>, wide: bool, desk: &mut D) -> Result<(), WriteFault>
-    requires creating { (D.outside desk.old).creating ≡ true }
-    requires wide { wide ≡ is_wide store.now.items }
-    requires plain { IsPlain store.now }
-    ensures { Puts (D.outside desk.old) (flat_map (infe_box wide) (infos_of store.now.items)) result (D.outside desk.new) }
-{
-    let mut page = Page::new();
-    give_infes(store, wide, &mut page, desk)?;
-    page.end(desk)
 }
 
 /// Version 0, and a count of two bytes.
@@ -92,32 +77,38 @@ fn wide_count(count: u64) -> [u8; 8]
     bytes
 }
 
-/// Puts the version and the count of items.
-fn put_count<D: Desk>(count: u64, wide: bool, desk: &mut D) -> Result<(), WriteFault>
+/// Gives the version and the count of items.
+fn give_count<D: Desk>(
+    count: u64,
+    wide: bool,
+    page: &mut Page<Put>,
+    desk: &mut D,
+) -> Result<(), WriteFault>
     requires creating { (D.outside desk.old).creating ≡ true }
     requires fits { count < 256 ^ id_width wide }
-    ensures { Puts (D.outside desk.old) (full_box (id_version wide) 0 ++ num count (id_width wide)) result (D.outside desk.new) }
+    ensures { Gives ByPut (D.outside desk.old) page.old (full_box (id_version wide) 0 ++ num count (id_width wide)) result (D.outside desk.new) page.new }
 {
     if wide {
-        return put_all(desk, &wide_count(count));
+        return page.give(&wide_count(count), desk);
     }
-    put_all(desk, &narrow_count(count))
+    page.give(&narrow_count(count), desk)
 }
 
-/// Puts a whole `iinf` with the items of a store, by its plan.
-pub(crate) fn put_iinf<D: Desk>(
+/// Gives a whole `iinf` with the items of a store, by its plan.
+pub(crate) fn give_iinf<D: Desk>(
     store: &Store<'_>,
     plan: &Plan,
+    page: &mut Page<Put>,
     desk: &mut D,
 ) -> Result<(), WriteFault>
     requires creating { (D.outside desk.old).creating ≡ true }
     requires plan { IsPlan store.now plan.now }
-    requires plain { IsPlain store.now }
-    ensures { Puts (D.outside desk.old) (box (four "iinf") (iinf_body (is_wide store.now.items) (infos_of store.now.items))) result (D.outside desk.new) }
+    ensures { Gives ByPut (D.outside desk.old) page.old (box (four "iinf") (iinf_body (is_wide store.now.items) (infos_of store.now.items)))
+        result (D.outside desk.new) page.new }
 {
     let count = store.len() as u64;
     let ids = plan.wide();
-    put_header(IINF, body_of(plan.sizes().iinf), desk)?;
-    put_count(count, ids, desk)?;
-    put_infes(store, ids, desk)
+    give_header(IINF, plan.sizes().iinf, page, desk)?;
+    give_count(count, ids, page, desk)?;
+    give_infes(store, ids, page, desk)
 }

@@ -8,22 +8,29 @@ ghost use Rattle.hf_box.specs.Head.{box};
 ghost use Rattle.hf_box.specs.Literals.{four};
 ghost use Rattle.hf_box.specs.Written.{id_width};
 ghost use Rattle.hf_desk.specs.Outside.{Outside};
-ghost use Rattle.hf_desk.specs.Calls.{Puts};
 ghost use Rattle.hf_desk.specs.Pages.{ByPut, Gives};
 ghost use Rattle.hf_loc.specs.Iloc.{offset_width, iloc_version, iloc_body};
-ghost use Rattle.hf_store.specs.Layout.{own, entries_of};
-ghost use Rattle.hf_store.specs.Plain.{IsPlain};
+ghost use Rattle.hf_store.specs.Layout.{own, entries_of, method_of as method_stated};
+ghost use Rattle.hf_store.specs.Seen.{item_of};
 ghost use Rattle.hf_store.specs.Store.{Item as Stated};
 ghost use Rattle.hf_plan.specs.Plan.{IsPlan};
 ghost use Rattle.hf_write.specs.Entries.{planned_entry};
 
-use crate::header::{body_of, put_header};
+use crate::header::give_header;
 use hf_base::be_put;
 use hf_base::kinds::ILOC;
-use hf_desk::{Desk, Page, Put, WriteFault, put_all};
+use hf_desk::{Desk, Page, Put, WriteFault};
 use hf_loc::give_entry;
 use hf_plan::Plan;
-use hf_store::Store;
+use hf_store::{Item, Store, in_idat};
+
+/// The construction method of an item: 1 where its bytes stand in `idat`.
+fn method_of(item: &Item<'_>) -> u8
+    ensures value { result ≡ method_stated (item_of item.now) }
+    ensures few { result ≤ 2 }
+{
+    if in_idat(item) { 1 } else { 0 }
+}
 
 /// Gives the entry of the item at a place to a page; one without bytes has none.
 fn give_planned<D: Desk>(
@@ -35,7 +42,6 @@ fn give_planned<D: Desk>(
 ) -> Result<(), WriteFault>
     requires creating { (D.outside desk.old).creating ≡ true }
     requires plan { IsPlan store.now plan.now }
-    requires plain { IsPlain store.now }
     requires place { i < length store.now.items }
     ensures { (item : Stated) → slice_get store.now.items i ≡ Some item → Gives ByPut (D.outside desk.old) page.old (planned_entry store.now plan.now item) result (D.outside desk.new) page.new }
 {
@@ -46,7 +52,8 @@ fn give_planned<D: Desk>(
     match plan.start(i) {
         Some(offset) => {
             let len = item.body.len();
-            give_entry(item.id, 0, offset, len, wide, long, page, desk)
+            let method = method_of(item);
+            give_entry(item.id, method, offset, len, wide, long, page, desk)
         }
         None => Ok(()),
     }
@@ -61,25 +68,12 @@ fn give_entries<D: Desk>(
 ) -> Result<(), WriteFault>
     requires creating { (D.outside desk.old).creating ≡ true }
     requires plan { IsPlan store.now plan.now }
-    requires plain { IsPlain store.now }
     ensures { Gives ByPut (D.outside desk.old) page.old (flat_map (planned_entry store.now plan.now) store.now.items) result (D.outside desk.new) page.new }
 {
     for i in 0..store.len() {
         give_planned(store, plan, i, page, desk)?;
     }
     Ok(())
-}
-
-/// Puts the entries of all items that have bytes.
-fn put_entries<D: Desk>(store: &Store<'_>, plan: &Plan, desk: &mut D) -> Result<(), WriteFault>
-    requires creating { (D.outside desk.old).creating ≡ true }
-    requires plan { IsPlan store.now plan.now }
-    requires plain { IsPlain store.now }
-    ensures { Puts (D.outside desk.old) (flat_map (planned_entry store.now plan.now) store.now.items) result (D.outside desk.new) }
-{
-    let mut page = Page::new();
-    give_entries(store, plan, &mut page, desk)?;
-    page.end(desk)
 }
 
 /// The byte of the widths of offsets and lengths.
@@ -113,38 +107,43 @@ fn wide_front(widths: u8, count: u64) -> [u8; 10]
     bytes
 }
 
-/// Puts the version, the widths and the count of entries.
-fn put_front<D: Desk>(count: u64, wide: bool, long: bool, desk: &mut D) -> Result<(), WriteFault>
+/// Gives the version, the widths and the count of entries.
+fn give_front<D: Desk>(
+    count: u64,
+    wide: bool,
+    long: bool,
+    page: &mut Page<Put>,
+    desk: &mut D,
+) -> Result<(), WriteFault>
     requires creating { (D.outside desk.old).creating ≡ true }
     requires fits { count < 256 ^ id_width wide }
-    ensures { Puts (D.outside desk.old)
+    ensures { Gives ByPut (D.outside desk.old) page.old
         (full_box (iloc_version wide) 0 ++ num (16 * offset_width long + offset_width long) 1 ++ num 0 1 ++ num count (id_width wide))
-        result (D.outside desk.new) }
+        result (D.outside desk.new) page.new }
 {
     if wide {
-        return put_all(desk, &wide_front(widths(long), count));
+        return page.give(&wide_front(widths(long), count), desk);
     }
-    put_all(desk, &narrow_front(widths(long), count))
+    page.give(&narrow_front(widths(long), count), desk)
 }
 
-/// Puts a whole `iloc` with the items of a store, by its plan.
-pub(crate) fn put_iloc<D: Desk>(
+/// Gives a whole `iloc` with the items of a store, by its plan.
+pub(crate) fn give_iloc<D: Desk>(
     store: &Store<'_>,
     plan: &Plan,
+    page: &mut Page<Put>,
     desk: &mut D,
 ) -> Result<(), WriteFault>
     requires creating { (D.outside desk.old).creating ≡ true }
     requires plan { IsPlan store.now plan.now }
-    requires plain { IsPlain store.now }
-    ensures { Puts (D.outside desk.old)
+    ensures { Gives ByPut (D.outside desk.old) page.old
         (box (four "iloc") (iloc_body plan.now.wide (offset_width plan.now.long) (entries_of own plan.now.total store.now.items)))
-        result (D.outside desk.new) }
+        result (D.outside desk.new) page.new }
 {
-    store.valid();
     let count = store.counts().located;
     let ids = plan.wide();
     let offsets = plan.long();
-    put_header(ILOC, body_of(plan.sizes().iloc), desk)?;
-    put_front(count, ids, offsets, desk)?;
-    put_entries(store, plan, desk)
+    give_header(ILOC, plan.sizes().iloc, page, desk)?;
+    give_front(count, ids, offsets, page, desk)?;
+    give_entries(store, plan, page, desk)
 }

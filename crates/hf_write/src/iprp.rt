@@ -3,49 +3,33 @@
 ghost use Rattle.std.specs.Prelude.{◌≡◌, true};
 ghost use Rattle.hf_box.specs.Head.{box};
 ghost use Rattle.hf_box.specs.Literals.{four};
-ghost use Rattle.hf_box.specs.Written.{id_version};
-ghost use Rattle.hf_desk.specs.Calls.{Puts};
+ghost use Rattle.hf_desk.specs.Outside.{Outside};
+ghost use Rattle.hf_desk.specs.Pages.{ByPut, Gives};
 ghost use Rattle.hf_prop.specs.Iprp.{iprp_body};
 ghost use Rattle.hf_store.specs.Layout.{iprp_of};
-ghost use Rattle.hf_store.specs.Plain.{IsPlain};
-ghost use Rattle.hf_write.specs.Entries.{empty_bytes};
+ghost use Rattle.hf_plan.specs.Plan.{IsPlan};
 
-use hf_base::be_put;
-use hf_base::kinds::{IPCO, IPMA, IPRP};
-use hf_desk::{Desk, WriteFault, put_all};
+use crate::header::give_header;
+use crate::ipco::give_ipco;
+use crate::ipma::give_ipma;
+use hf_base::kinds::IPRP;
+use hf_desk::{Desk, Page, Put, WriteFault};
+use hf_plan::Plan;
 use hf_store::Store;
 
-/// The version of `ipma` for ids of this width.
-fn version_of(wide: bool) -> u8
-    ensures { result ≡ id_version wide }
-{
-    if wide { 1 } else { 0 }
-}
-
-/// An `iprp` with an empty `ipco`, and an `ipma` of this version without entries.
-fn empty_iprp(version: u8) -> [u8; 32]
-    ensures { result ≡ empty_bytes version }
-{
-    let mut bytes = [0u8; 32];
-    be_put(&mut bytes, 0, 4, 32);
-    bytes[4..8].copy_from_slice(&IPRP.0);
-    be_put(&mut bytes, 8, 4, 8);
-    bytes[12..16].copy_from_slice(&IPCO.0);
-    be_put(&mut bytes, 16, 4, 16);
-    bytes[20..24].copy_from_slice(&IPMA.0);
-    bytes[24] = version;
-    bytes
-}
-
-/// Puts a whole `iprp` of a store, in which no item has properties.
-pub(crate) fn put_iprp<D: Desk>(
+/// Gives a whole `iprp` with the properties of the items of a store, by its plan.
+pub(crate) fn give_iprp<D: Desk>(
     store: &Store<'_>,
-    wide: bool,
+    plan: &Plan,
+    page: &mut Page<Put>,
     desk: &mut D,
 ) -> Result<(), WriteFault>
     requires creating { (D.outside desk.old).creating ≡ true }
-    requires plain { IsPlain store.now }
-    ensures { Puts (D.outside desk.old) (box (four "iprp") (iprp_body wide (iprp_of store.now))) result (D.outside desk.new) }
+    requires plan { IsPlan store.now plan.now }
+    ensures { Gives ByPut (D.outside desk.old) page.old (box (four "iprp") (iprp_body plan.now.wide (iprp_of store.now))) result (D.outside desk.new) page.new }
 {
-    put_all(desk, &empty_iprp(version_of(wide)))
+    store.valid();
+    give_header(IPRP, plan.sizes().iprp, page, desk)?;
+    give_ipco(store, plan, page, desk)?;
+    give_ipma(store, plan, page, desk)
 }

@@ -1,11 +1,17 @@
 //! The canonical file of a store, written.
 #![tactic(auto)]
 
+mod bodies;
 mod file;
+mod grpl;
 mod header;
+mod idat;
 mod iinf;
 mod iloc;
+mod ipco;
+mod ipma;
 mod iprp;
+mod iref;
 mod making;
 mod mdat;
 

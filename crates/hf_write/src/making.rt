@@ -1,7 +1,6 @@
 //! The file in memory.
 
 ghost use Rattle.std.specs.Prelude.{◌≡◌, IfOk};
-ghost use Rattle.hf_store.specs.Plain.{IsPlain};
 ghost use Rattle.hf_plan.specs.Canon.{Canon};
 ghost use Rattle.hf_plan.specs.Plan.{IsPlan};
 
@@ -15,8 +14,7 @@ use std::alloc::Global;
 /// The canonical file of the store; the plan is that of the store. `NoMemory` comes only where
 /// memory was refused.
 pub fn make(alloc: Global, store: &Store<'_>, plan: &Plan) -> Result<Vec<u8>, NoMemory>
-    requires plan { IsPlan store.now plan.now }
-    requires plain { IsPlain store.now }
+    requires { IsPlan store.now plan.now }
     ensures { IfOk result (λ v. Canon store.now v.items) }
 {
     store.valid();

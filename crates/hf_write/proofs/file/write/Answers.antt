@@ -1,14 +1,15 @@
-use Rattle.std.proofs.Common.{refl}
-use Rattle.hf_desk.proofs.Joined.{puts_then}
-use Rattle.hf_write.proofs.Chains.{puts_as, stops}
-use Rattle.hf_write.proofs.Files.{file_by}
+use Rattle.std.proofs.Common.{refl, ◌∙◌}
+use Rattle.hf_desk.proofs.Paging.{put_end, put_stop}
+use Rattle.hf_plan.proofs.OneFile.{has_canon}
 use Rattle.hf_write.proofs.file.write.Goals as goal
 
-pub returns-in_err-put_ftyp : goal.returns-in_err-put_ftyp
-returns-in_err-put_ftyp g c = λ file canon. puts_as (file_by c.args.store.now c.args.plan.now _ file c.brands.ensures.value c.valid.ensures c.requires.plan canon) (stops _ refl c.from_residual.ensures.0 c.in_err-put_ftyp.ensures)
+pub end-requires : goal.end-requires
+end-requires g c =
+    let file = has_canon c.args.store.now c.valid.ensures in
+    (c.in_ok-give_file.ensures file.0 file.1).writes.only.creating ∙ c.requires.creating
 
-pub returns-in_err-put_meta : goal.returns-in_err-put_meta
-returns-in_err-put_meta g c = λ file canon. puts_as (file_by c.args.store.now c.args.plan.now _ file c.brands.ensures.value c.valid.ensures c.requires.plan canon) (puts_then c.in_ok-put_ftyp.ensures (stops _ refl c.from_residual-in_err-put_meta.ensures.0 c.in_err-put_meta.ensures))
+pub returns-in_err-give_file : goal.returns-in_err-give_file
+returns-in_err-give_file g c = λ file canon. put_stop refl c.from_residual.ensures.0 (rw c.new-page.ensures at c.in_err-give_file.ensures file canon)
 
 pub returns : goal.returns
-returns g c = λ file canon. puts_as (file_by c.args.store.now c.args.plan.now _ file c.brands.ensures.value c.valid.ensures c.requires.plan canon) (puts_then c.in_ok-put_ftyp.ensures (puts_then c.in_ok-put_meta.ensures c.put_mdat.ensures))
+returns g c = λ file canon. put_end (rw c.new-page.ensures at c.in_ok-give_file.ensures file canon) c.end.ensures.writes

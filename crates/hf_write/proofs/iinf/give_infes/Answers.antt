@@ -4,13 +4,13 @@ use Rattle.hf_info.specs.Infe.{Info, infe_box}
 use Rattle.hf_store.specs.Layout.{info_of, infos_of}
 use Rattle.hf_store.specs.Seen.{item_of}
 use Rattle.hf_store.proofs.Spots.{get_map}
-use Rattle.hf_write.proofs.Files.{id_fits, infe_few}
+use Rattle.hf_write.proofs.Fits.{id_fits, infe_few}
 use Rattle.hf_write.proofs.Chains.{gives_next, gives_last}
 use Rattle.hf_write.proofs.iinf.give_infes.Goals as goal
 
 pub give_infe-requires-clause-size : goal.give_infe-requires-clause-size
 give_infe-requires-clause-size g c =
-    rw c.info_in-info.ensures (infe_few c.args.store.now c.args.wide c.loop-i.i (item_of c.at.result.now) c.len-i-end.ensures.valid c.requires.plain c.at.ensures)
+    rw c.info_in-info.ensures (infe_few c.args.store.now c.args.wide c.loop-i.i (item_of c.at.result.now) c.len-i-end.ensures.valid c.requires.wide c.at.ensures)
 
 pub give_infe-requires-clause-fits : goal.give_infe-requires-clause-fits
 give_infe-requires-clause-fits g c =
