@@ -1,11 +1,10 @@
 -- The store of the tests.
 use Rattle.std.proofs.Common.{◌≡◌, List, [], ◌∷◌, refl, sym, ap, ◌∙◌, arith}
 use Rattle.hf_box.specs.Literals.{hex_of}
-use Rattle.hf_store.specs.Store.{Item as Stated, ItemStore}
+use Rattle.hf_store.specs.Store.{Item as Stated, Group, ItemStore}
 use Rattle.hf_store.specs.WorkedStores.{heic, plain, two_pictures}
 use Rattle.hf_store.specs.Derived.{input_pairs}
 use Rattle.hf_store.specs.Valid.{Valid}
-use Rattle.hf_store.specs.Plain.{IsPlain}
 use Rattle.hf_store.specs.Seen.{item_of, items_of}
 use Rattle.hf_store.specs.declared.item.Item.{Item}
 use Rattle.hf_store.proofs.Ends.{ends}
@@ -29,14 +28,10 @@ valid_two_pictures =
       meta = omega arith;
     }
 
-pub plain_two_pictures : IsPlain two_pictures
-unfolding two_pictures
-plain_two_pictures = search arith
-
 -- the parts that the test has are this store
 pub two_made : (items : List Item) (first second : Item) → items ≡ first ∷ second ∷ [] → item_of first ≡ plain 1 "hvc1" (hex_of "aabbcc") → item_of second ≡ plain 2 "hvc1" (hex_of "dd")
-    → two_pictures ≡ record { brands = heic; primary = 1; items = items_of items; groups = [] }
+    → (groups : List Group) → groups ≡ [] → two_pictures ≡ record { brands = heic; primary = 1; items = items_of items; groups = groups }
 unfolding two_pictures
-two_made items first second are one two =
+two_made items first second are one two groups none =
     let made : List Stated → ItemStore = λ is. record { brands = heic; primary = 1; items = is; groups = [] } in
-    sym (ap (λ (is : List Item). made (items_of is)) are ∙ ap (λ (i : Stated). made (i ∷ item_of second ∷ [])) one ∙ ap (λ (i : Stated). made (plain 1 "hvc1" (hex_of "aabbcc") ∷ i ∷ [])) two)
+    sym (ap (λ (gs : List Group). record { brands = heic; primary = 1; items = items_of items; groups = gs }) none ∙ ap (λ (is : List Item). made (items_of is)) are ∙ ap (λ (i : Stated). made (i ∷ item_of second ∷ [])) one ∙ ap (λ (i : Stated). made (plain 1 "hvc1" (hex_of "aabbcc") ∷ i ∷ [])) two)

@@ -1,7 +1,6 @@
 ghost use Rattle.std.specs.Prelude.{◌≡◌, IfOk};
 ghost use Rattle.hf_pieces.specs.Bytes.{joined};
 ghost use Rattle.hf_store.specs.Seen.{item_of};
-ghost use Rattle.hf_store.specs.Plain.{IsPlain};
 ghost use Rattle.hf_store.specs.WorkedStores.{plain, two_pictures as stated};
 
 use super::*;
@@ -19,7 +18,7 @@ const ONE_PICTURE: [u8; 193] =
 
 /// A picture that says nothing but its bytes.
 fn picture<'a>(alloc: Global, id: u32, body: Pieces<'a>) -> Item<'a>
-    ensures { item_of result ≡ plain id "hvc1" (joined body) }
+    ensures { item_of result ≡ plain id "hvc1" (joined body.entry) }
 {
     Item {
         id,
@@ -43,6 +42,7 @@ fn two_pictures(alloc: Global) -> Result<Store<'static>, NoMemory>
     first.push(b"\xaa\xbb\xcc")?;
     let mut second = Pieces::new(alloc);
     second.push(b"\xdd")?;
+    let groups = Series::new(alloc);
     let mut items = Series::new(alloc);
     items.push(picture(alloc, 1, first))?;
     items.push(picture(alloc, 2, second))?;
@@ -56,7 +56,7 @@ fn two_pictures(alloc: Global) -> Result<Store<'static>, NoMemory>
             },
             primary: 1,
             items,
-            groups: Series::new(alloc),
+            groups,
         },
     )
 }
