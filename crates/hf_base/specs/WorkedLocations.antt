@@ -37,7 +37,7 @@ fault F idat ids locs links = locations_fault F idat (located_items ids locs lin
 abbrev pub bytes : List ℕ → Option (List ℕ) → List ℕ → List Loc → List RefBox → List (Option (List ℕ))
 bytes F idat ids locs links = map (bytes_of F idat (located_items ids locs links)) (located_items ids locs links)
 
--- ---- items that several rows speak of
+-- ---- items that several clauses speak of
 
 -- items 2 and 3, without an entry
 abbrev pub bare_items : List Located

@@ -112,8 +112,6 @@ pub enum ReadRefusal {
     TooManyLinks { id: u32 },
     /// `meta` would have more than `META` bytes; `size` is their number, or 2^64 - 1.
     MetaTooLong { size: u64 },
-    /// A box that the standards allow here, but that is not read yet.
-    Later { kind: FourCc, at: u64 },
 }
 
 /// Why a file is not opened.

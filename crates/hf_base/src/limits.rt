@@ -17,8 +17,8 @@ pub const ITEMS: usize = 65_536;
 /// has those of that item.
 pub const PIECES: u64 = 1_048_576;
 
-/// Bytes of all items of a store. It will rise to 2^40 once files need not be kept in memory.
-pub const BODY: u64 = 1_073_741_824;
+/// Bytes of all items of a store, counted as often as items have them.
+pub const BODY: u64 = 1_099_511_627_776;
 
 /// Bytes of the `meta` box, as it is written with offsets of eight bytes.
 pub const META: u64 = 1_073_741_824;

@@ -2,7 +2,7 @@
 use Rattle.std.specs.Prelude.{ℕ, List, [], ◌++◌, codes, decimal}
 use Rattle.hf_base.specs.declared.four.FourCc.{FourCc}
 use Rattle.hf_base.specs.declared.fault.ReadRefusal.{ReadRefusal}
-use Rattle.hf_base.specs.declared.fault.ReadRefusal.TheVariants.{Short, BadSize, OpenSize, TooManyBoxes, NoFtyp, NotMif1, Movie, NoMeta, Double, ProtectionBox, Xml, Missing, BadRecord, BadVersion, NotPicture, ZeroId, Protected, DoubleItem, NoPrimary, BadWidth, TooLarge, DoubleLocation, DanglingNeed, DoubleAssoc, BadProperty, DoubleGroup, External, BadMethod, ZeroLength, NoIdat, BadIndex, LocCycle, OutOfFile, OutOfIdat, TooScattered, OutOfItem, TooManyBytes, BadDerived, DeriveCycle, TooManyItems, TooManyLinks, MetaTooLong, Later}
+use Rattle.hf_base.specs.declared.fault.ReadRefusal.TheVariants.{Short, BadSize, OpenSize, TooManyBoxes, NoFtyp, NotMif1, Movie, NoMeta, Double, ProtectionBox, Xml, Missing, BadRecord, BadVersion, NotPicture, ZeroId, Protected, DoubleItem, NoPrimary, BadWidth, TooLarge, DoubleLocation, DanglingNeed, DoubleAssoc, BadProperty, DoubleGroup, External, BadMethod, ZeroLength, NoIdat, BadIndex, LocCycle, OutOfFile, OutOfIdat, TooScattered, OutOfItem, TooManyBytes, BadDerived, DeriveCycle, TooManyItems, TooManyLinks, MetaTooLong}
 use Rattle.hf_text.specs.Texts.{type_text}
 use Rattle.hf_text.specs.declared.outcome.Outcome.{Outcome}
 use Rattle.hf_text.specs.declared.outcome.Outcome.TheVariants.{Done, Usage, Unfit, Refused, TooLong, ReadFault, WriteFault, NoMemory}
@@ -61,7 +61,6 @@ refusal_text (DeriveCycle id) = codes "DeriveCycle" ++ number_field id
 refusal_text (TooManyItems count) = codes "TooManyItems" ++ number_field count
 refusal_text (TooManyLinks id) = codes "TooManyLinks" ++ number_field id
 refusal_text (MetaTooLong size) = codes "MetaTooLong" ++ number_field size
-refusal_text (Later kind at) = codes "Later" ++ type_field kind ++ number_field at
 
 -- the name of a reason against an edit, then its field
 abbrev pub reason_text : Reason → List ℕ

@@ -110,7 +110,6 @@ pub fn parts_of(why: &ReadRefusal) -> Parts
         ReadRefusal::TooManyItems { count } => Parts::of_number("TooManyItems", count),
         ReadRefusal::TooManyLinks { id } => Parts::of_item("TooManyLinks", id),
         ReadRefusal::MetaTooLong { size } => Parts::of_number("MetaTooLong", size),
-        ReadRefusal::Later { kind, at } => Parts::of_box("Later", kind, at),
     }
 }
 
