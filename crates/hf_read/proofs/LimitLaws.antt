@@ -8,7 +8,7 @@ use Rattle.hf_base.specs.declared.fault.ReadRefusal.TheVariants.{MetaTooLong}
 use Rattle.hf_base.specs.declared.limits.TheConstants.{META}
 use Rattle.hf_store.specs.Store.{ItemStore}
 use Rattle.hf_store.specs.Valid.{meta_len}
-use Rattle.hf_read.specs.Faults.{too_many_items_fault, too_many_links_fault, meta_too_long_fault, limits_fault}
+use Rattle.hf_store.specs.LimitFaults.{too_many_items_fault, too_many_links_fault, meta_too_long_fault, limits_fault}
 use Rattle.hf_read.proofs.FirstFaults.{fine}
 
 pub items_first : (s : ItemStore) (fault : ReadRefusal) → too_many_items_fault s.items ≡ Err fault → limits_fault s ≡ Err fault

@@ -26,7 +26,7 @@ use Rattle.hf_store.specs.Layout.{is_wide, box_if_any, bytes_in, meta_front, met
 use Rattle.hf_store.specs.Table.{table_of}
 use Rattle.hf_store.specs.Valid.{body_sum, meta_len}
 use Rattle.hf_read.specs.Faults.{no_primary_fault, dangling_need_fault, bad_property_fault, bad_derived_fault, derive_cycle_fault, derived_fault}
-use Rattle.hf_read.specs.Faults.{too_many_items_fault, too_many_links_fault, meta_too_long_fault, limits_fault}
+use Rattle.hf_store.specs.LimitFaults.{too_many_items_fault, too_many_links_fault, meta_too_long_fault, limits_fault}
 use Rattle.hf_read.specs.Kept.{kept_refs, kept_props, kept_groups}
 use Rattle.hf_read.specs.Reading.{store_at, tables_at, checked, reading_parts, reading, fault_of}
 use Rattle.hf_read.specs.Rising.{by_rising}

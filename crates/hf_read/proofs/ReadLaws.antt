@@ -28,7 +28,8 @@ use Rattle.hf_info.proofs.IinfLemmas.{iinf_only, iinf_found}
 use Rattle.hf_loc.specs.Iloc.{loc_rows}
 use Rattle.hf_store.specs.Store.{ItemStore}
 use Rattle.hf_read.specs.Denotes.{NeedsAreItems, PicksAreProps, LinksWithin, PropsWithin, GroupsWithin}
-use Rattle.hf_read.specs.Faults.{no_primary_fault, dangling_need_fault, bad_property_fault, derived_fault, limits_fault}
+use Rattle.hf_store.specs.LimitFaults.{limits_fault}
+use Rattle.hf_read.specs.Faults.{no_primary_fault, dangling_need_fault, bad_property_fault, derived_fault}
 use Rattle.hf_read.specs.Reading.{idat_of, store_at, tables_at, checked, reading_parts, reading}
 use Rattle.hf_read.specs.Tables.{Tables, AreLocs, AreLinks, AreProps, AreGroups, locs_in, links_in, iprp_in, groups_in, item_ids, items_in}
 use Rattle.hf_read.specs.TopLevel.{first_of, IsTopLevel, has_mif1, top_of, Parts, AreParts, parts_of}

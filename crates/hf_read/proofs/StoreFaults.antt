@@ -21,7 +21,8 @@ use Rattle.hf_store.specs.Derived.{inputs, input_pairs}
 use Rattle.hf_store.specs.Store.{Item, ItemStore, ids_of}
 use Rattle.hf_store.specs.declared.item.RefList.{RefList}
 use Rattle.hf_store.specs.Valid.{meta_len}
-use Rattle.hf_read.specs.Faults.{first_item, is_misfit, bad_derived_fault, derive_cycle_fault, derived_fault, too_many_items_fault, has_long_list, too_many_links_fault, meta_too_long_fault, limits_fault}
+use Rattle.hf_store.specs.LimitFaults.{first_item, too_many_items_fault, has_long_list, too_many_links_fault, meta_too_long_fault, limits_fault}
+use Rattle.hf_read.specs.Faults.{is_misfit, bad_derived_fault, derive_cycle_fault, derived_fault}
 use Rattle.hf_read.specs.Walks.{first_walker}
 use Rattle.hf_read.proofs.FirstFaults.{fine}
 use Rattle.hf_read.proofs.Filters.{not_false, any_none, from_flat}

@@ -1,14 +1,12 @@
--- Why a file is refused: the parts that are of no record. Each tells its fault for the least id that has it. Which they
--- are, their order and the limits are this project's own rule.
-use Rattle.std.specs.Prelude.{ℕ, Bool, not, ◌&&◌, List, length, find, nat_lt, ◌==◌, Option, Result, option_map}
+-- Why a file is refused: the parts that are of no record, but for the limits of a store. Each tells its fault for the least
+-- id that has it. Which they are, and their order, is this project's own rule.
+use Rattle.std.specs.Prelude.{ℕ, Bool, not, ◌&&◌, List, length, find, nat_lt, ◌==◌, Result}
 use Rattle.std.specs.List.{list_any}
 use Rattle.hf_base.specs.Entries.{has_id, refuse_if}
-use Rattle.hf_base.specs.LocationFaults.{refused, limited}
+use Rattle.hf_base.specs.LocationFaults.{refused}
 use Rattle.hf_base.specs.Reading.{◌>>=◌}
 use Rattle.hf_base.specs.declared.fault.ReadRefusal.{ReadRefusal}
 use Rattle.hf_base.specs.declared.fault.ReadRefusal.TheVariants.{NoPrimary, DanglingNeed, BadProperty, BadDerived, DeriveCycle}
-use Rattle.hf_base.specs.declared.fault.ReadRefusal.TheVariants.{TooManyItems, TooManyLinks, MetaTooLong}
-use Rattle.hf_base.specs.declared.limits.TheConstants as limits
 use Rattle.hf_base.specs.declared.loc.RefBox.{RefBox}
 use Rattle.hf_derived.specs.Derived.{fits}
 use Rattle.hf_prop.specs.declared.assoc.Pick.{Pick}
@@ -16,9 +14,8 @@ use Rattle.hf_prop.specs.declared.iprp.Iprp.{Iprp}
 use Rattle.hf_prop.specs.declared.prop.Prop.{Prop}
 use Rattle.hf_store.specs.Changes.{is_need}
 use Rattle.hf_store.specs.Derived.{inputs, input_pairs}
-use Rattle.hf_store.specs.Store.{Item, ItemStore, ids_of}
-use Rattle.hf_store.specs.declared.item.RefList.{RefList}
-use Rattle.hf_store.specs.Valid.{meta_len}
+use Rattle.hf_store.specs.LimitFaults.{first_item}
+use Rattle.hf_store.specs.Store.{Item, ids_of}
 use Rattle.hf_read.specs.Kept.{picks_of}
 use Rattle.hf_read.specs.Walks.{first_walker}
 
@@ -44,9 +41,6 @@ bad_property_fault ids v = refused (λ id. BadProperty id) (find (λ id. list_an
 
 -- ---- parts over the items, whose ids rise
 
-abbrev pub first_item : (Item → Bool) → List Item → Option ℕ
-first_item has items = option_map (λ (i : Item). i.id) (find has items)
-
 -- the bytes do not fit the items that the item is made of
 abbrev pub is_misfit : Item → Bool
 is_misfit i = not (fits i.kind i.bytes (length (inputs i.refs)))
@@ -58,28 +52,7 @@ bad_derived_fault items = refused (λ id. BadDerived id) (first_item is_misfit i
 unfoldable pub derive_cycle_fault : List Item → Result (Unit {0}) ReadRefusal
 derive_cycle_fault items = refused (λ id. DeriveCycle id) (first_walker (input_pairs items) (ids_of items))
 
-unfoldable pub too_many_items_fault : List Item → Result (Unit {0}) ReadRefusal
-too_many_items_fault items = refuse_if (nat_lt limits.ITEMS (length items)) (TooManyItems (length items))
-
--- a reference list has too many ids
-abbrev pub has_long_list : Item → Bool
-has_long_list i = list_any (λ (r : RefList). nat_lt limits.LINKS (length r.to)) i.refs
-
-unfoldable pub too_many_links_fault : List Item → Result (Unit {0}) ReadRefusal
-too_many_links_fault items = refused (λ id. TooManyLinks id) (first_item has_long_list items)
-
-unfoldable pub meta_too_long_fault : ItemStore → Result (Unit {0}) ReadRefusal
-meta_too_long_fault s = limited limits.META (λ size. MetaTooLong size) (meta_len s)
-
--- ---- derived items, and then the limits of a store
-
 unfoldable pub derived_fault : List Item → Result (Unit {0}) ReadRefusal
 derived_fault items = do
   fitting ← bad_derived_fault items
   derive_cycle_fault items
-
-unfoldable pub limits_fault : ItemStore → Result (Unit {0}) ReadRefusal
-limits_fault s = do
-  count ← too_many_items_fault s.items
-  links ← too_many_links_fault s.items
-  meta_too_long_fault s

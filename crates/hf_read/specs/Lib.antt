@@ -4,6 +4,7 @@ pub mod Faults
 pub mod Kept
 pub mod Reading
 pub mod Rising
+pub mod Seen
 pub mod SmallFiles
 pub mod Tables
 pub mod TopLevel

@@ -14,7 +14,8 @@ use Rattle.hf_head.specs.Pitm.{pitm_at}
 use Rattle.hf_info.specs.Infe.{Info}
 use Rattle.hf_info.specs.Iinf.{iinf_at}
 use Rattle.hf_store.specs.Store.{Item, ItemStore}
-use Rattle.hf_read.specs.Faults.{no_primary_fault, dangling_need_fault, bad_property_fault, derived_fault, limits_fault}
+use Rattle.hf_store.specs.LimitFaults.{limits_fault}
+use Rattle.hf_read.specs.Faults.{no_primary_fault, dangling_need_fault, bad_property_fault, derived_fault}
 use Rattle.hf_read.specs.Kept.{kept_refs, kept_props, kept_groups}
 use Rattle.hf_read.specs.Tables.{Tables, locs_in, links_in, iprp_in, groups_in, infos_by_id, item_ids, located_in, items_in}
 use Rattle.hf_read.specs.TopLevel.{Parts, top_of, parts_of}

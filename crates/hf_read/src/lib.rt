@@ -3,6 +3,10 @@
 
 pub mod laws;
 pub mod limits;
+pub mod meta;
+mod opening;
 pub mod order;
 pub mod refused;
 pub mod worked;
+
+pub use opening::open_store;

@@ -7,6 +7,7 @@ pub mod LargeStores
 pub mod Kept
 pub mod Layout
 pub mod Offsets
+pub mod LimitFaults
 pub mod LimitStores
 pub mod Lists
 pub mod Picks

@@ -45,16 +45,20 @@ pub record AreGoodBrands (b : Brands) : Type 0 where
   pub within : length b.compatible ≤ limits.FILE
   pub mif1 : (b.major ≡ four "mif1") ⊎ HasBrand (four "mif1") b.compatible
 
--- references to some of these items; those of type `iloc` are no part of a store
-pub record IsGoodRef (is : List Item) (r : RefList) : Type 0 where
+-- references to some of these items, so many at most; those of type `iloc` are no part of a store
+pub record IsGoodRefWithin (most : ℕ) (is : List Item) (r : RefList) : Type 0 where
   pub kind : IsFour r.kind
   pub not_iloc : r.kind ≢ four "iloc"
   pub some : 0 < length r.to
-  pub links : length r.to ≤ limits.LINKS
+  pub links : length r.to ≤ most
   pub to : AllByRecursion (λ id. IsIn id (ids_of is)) r.to
 
--- an item among these items: strings without a zero byte, and only the strings that its type has
-pub record IsGoodItem (is : List Item) (i : Item) : Type 0 where
+abbrev pub IsGoodRef : List Item → RefList → Type 0
+IsGoodRef = IsGoodRefWithin limits.LINKS
+
+-- an item among these items, with so many references of one type at most: strings without a zero byte, and only the
+-- strings that its type has
+pub record IsGoodItemWithin (most : ℕ) (is : List Item) (i : Item) : Type 0 where
   pub id : i.id < 256 ^ 4
   pub kind : IsFour i.kind
   pub name : HasNoZero i.name
@@ -65,9 +69,12 @@ pub record IsGoodItem (is : List Item) (i : Item) : Type 0 where
   pub only_uri : (i.kind ≡ four "uri ") ⊎ (i.uri ≡ [])
   pub props : length i.props ≤ limits.PROPS
   pub prop_kinds : AllByRecursion (λ (h : Held). IsFour h.prop.kind) i.props
-  pub refs : AllByRecursion (IsGoodRef is) i.refs
+  pub refs : AllByRecursion (IsGoodRefWithin most is) i.refs
   pub kinds_rise : Rises IsBelow (map (λ (r : RefList). r.kind) i.refs)
   pub fits : IsTrue (fits i.kind i.bytes (length (inputs i.refs)))
+
+abbrev pub IsGoodItem : List Item → Item → Type 0
+IsGoodItem = IsGoodItemWithin limits.LINKS
 
 -- a group of some of these items
 pub record IsGoodGroup (is : List Item) (g : Group) : Type 0 where
@@ -78,18 +85,26 @@ pub record IsGoodGroup (is : List Item) (g : Group) : Type 0 where
   pub some : 0 < length g.entities
   pub entities : AllByRecursion (λ id. IsIn id (ids_of is)) g.entities
 
-pub record Valid (s : ItemStore) : Type 0 where
+-- valid, with so many items at most, so many references of one type, and so many bytes of `meta`
+pub record ValidWithin (most_items most_links most_bytes : ℕ) (s : ItemStore) : Type 0 where
   pub brands : AreGoodBrands s.brands
   -- item ids are at least 1 and rise
   pub ids_rise : RisesFrom ◌<◌ 0 (ids_of s.items)
   pub primary : IsIn s.primary (ids_of s.items)
-  pub items : AllByRecursion (IsGoodItem s.items) s.items
+  pub items : AllByRecursion (IsGoodItemWithin most_links s.items) s.items
   -- group ids rise; the first may be 0
   pub groups_rise : Rises ◌<◌ (map (λ (g : Group). g.id) s.groups)
   pub groups : AllByRecursion (IsGoodGroup s.items) s.groups
   -- no item is made of itself, through others or not
   pub ends : (walk : ℕ → ℕ) → IsEndless (input_pairs s.items) walk → ⊥
-  pub count : length s.items ≤ limits.ITEMS
+  pub count : length s.items ≤ most_items
   pub kinds : length (table_of s) ≤ limits.KINDS
   pub body : body_sum s.items ≤ limits.BODY
-  pub meta : meta_len s ≤ limits.META
+  pub meta : meta_len s ≤ most_bytes
+
+abbrev pub Valid : ItemStore → Type 0
+Valid = ValidWithin limits.ITEMS limits.LINKS limits.META
+
+-- valid but for these three limits
+abbrev pub IsSound : ItemStore → Type 0
+IsSound s = (items : ℕ) × (links : ℕ) × (bytes : ℕ) × ValidWithin items links bytes s

@@ -1,19 +1,21 @@
 //! A store is made of parts.
 
-ghost use Rattle.std.specs.Prelude.{◌≡◌, ◌≤◌, length, IfOk};
+ghost use Rattle.std.specs.Prelude.{◌≡◌, ◌≤◌, length, IfOk, Ok, Err};
 ghost use Rattle.std.specs.List.{AllByRecursion, flat_map};
+ghost use Rattle.hf_base.specs.Reading.{MatchOpen};
 ghost use Rattle.hf_base.specs.declared.limits.TheConstants as limits;
+ghost use Rattle.hf_store.specs.LimitFaults.{limits_fault};
 ghost use Rattle.hf_store.specs.Seen.{items_of, stated};
 ghost use Rattle.hf_store.specs.Store.{Item as StatedItem};
 ghost use Rattle.hf_store.specs.Table.{props_of};
-ghost use Rattle.hf_store.specs.Valid.{Valid};
+ghost use Rattle.hf_store.specs.Valid.{IsSound, Valid};
 ghost use Rattle.hf_table.specs.Table.{size_sum, table};
 ghost use Rattle.hf_table.specs.Uses.{Tallies};
 
 use crate::Item;
 use crate::store::{Parts, Store};
 use crate::tally::{count_groups, count_items};
-use hf_base::{NoMemory, TryClone};
+use hf_base::{NoMemory, OpenFault, TryClone};
 use hf_table::Uses;
 use std::alloc::Global;
 
@@ -60,6 +62,17 @@ impl<'a> Store<'a> {
             uses,
             counts: self.counts,
         })
+    }
+
+    /// The store of parts that are sound, which are spent in every case. It refuses more than `ITEMS`
+    /// items, then a reference list of more than `LINKS` ids, then a `meta` of more than `META` bytes.
+    pub fn build(alloc: Global, parts: Parts<'a>) -> Result<Store<'a>, OpenFault>
+        requires { IsSound (stated parts) }
+        ensures { MatchOpen result
+            (λ store. (store ≡ stated parts.entry) × (limits_fault (stated parts.entry) ≡ Ok tt))
+            (λ why. limits_fault (stated parts.entry) ≡ Err why) }
+    {
+        Err(OpenFault::NoMemory)
     }
 
     /// The store of parts that are valid together, which are spent in every case. `NoMemory` comes

@@ -1,0 +1,4 @@
+//! What canonical files denote: laws alone.
+#![tactic(auto)]
+
+pub mod laws;
