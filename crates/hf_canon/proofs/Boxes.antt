@@ -1,5 +1,5 @@
 -- A layout is boxes, and so is its `meta`.
-use Rattle.std.proofs.Common.{◌≡◌, ◌+◌, ◌^◌, ◌<◌, ℕ, true, false, List, [], ◌∷◌, ◌++◌, length, drop, Option, Some, None}
+use Rattle.std.proofs.Common.{◌≡◌, ◌+◌, ◌^◌, ◌<◌, ℕ, Bool, true, false, List, [], ◌∷◌, ◌++◌, length, drop, Option, Some, None}
 use Rattle.std.proofs.Common.{refl, sym, ap, subst, ◌∙◌, append_assoc, append-nil, length-append, arith, inl, inr}
 use Rattle.std.specs.List.{filter}
 use Rattle.std.specs.Option.{option_to_list}
@@ -41,14 +41,18 @@ has_size kind body four few =
 pub behind_few : (front rest : List ℕ) → length (front ++ rest) < 256 ^ 8 → length rest < 256 ^ 8
 behind_few front rest few = omega (arith, few, length-append front rest)
 
-pub then_box : (top : _) (kind : FourCc) (body rest : List ℕ) (place : ℕ) (others : List BoxAt) → length kind.0 ≡ 4 → length (box kind body ++ rest) < 256 ^ 8
-    → IsBoxes rest (place + length (box kind body)) top others → IsBoxes (box kind body ++ rest) place top (written_at place kind body ∷ others)
+pub then_box : (top : Bool) (kind : FourCc) (body rest : List ℕ) (place : ℕ) (others : List BoxAt) → length kind.0 ≡ 4
+    → length (box kind body ++ rest) < 256 ^ 8 → IsBoxes rest (place + length (box kind body)) top others
+    → IsBoxes (box kind body ++ rest) place top (written_at place kind body ∷ others)
 then_box top kind body rest place others four few more =
-    boxes-written (box kind body ++ rest) place top kind body rest others refl four (has_size kind body four (omega (arith, few, length-append (box kind body) rest))) more
+    let size = has_size kind body four (omega (arith, few, length-append (box kind body) rest)) in
+    boxes-written (box kind body ++ rest) place top kind body rest others refl four size more
 
-pub last_box : (top : _) (kind : FourCc) (body : List ℕ) (place : ℕ) → length kind.0 ≡ 4 → length (box kind body) < 256 ^ 8 → IsBoxes (box kind body) place top (written_at place kind body ∷ [])
+pub last_box : (top : Bool) (kind : FourCc) (body : List ℕ) (place : ℕ) → length kind.0 ≡ 4 → length (box kind body) < 256 ^ 8
+    → IsBoxes (box kind body) place top (written_at place kind body ∷ [])
 last_box top kind body place four few =
-    boxes-written (box kind body) place top kind body [] [] (sym (append-nil (box kind body))) four (has_size kind body four few) refl
+    let whole = sym (append-nil (box kind body)) in
+    boxes-written (box kind body) place top kind body [] [] whole four (has_size kind body four few) refl
 
 -- a box that may be absent
 abbrev text_of : FourCc → Option (List ℕ) → List ℕ
@@ -63,8 +67,9 @@ abbrev any_at : ℕ → FourCc → Option (List ℕ) → Option BoxAt
 any_at place kind None = None
 any_at place kind (Some body) = Some (written_at place kind body)
 
-then_any : (kind : FourCc) (o : Option (List ℕ)) (rest : List ℕ) (place : ℕ) (others : List BoxAt) → length kind.0 ≡ 4 → length (text_of kind o ++ rest) < 256 ^ 8
-    → IsBoxes rest (behind_any place kind o) false others → IsBoxes (text_of kind o ++ rest) place false (option_to_list (any_at place kind o) ++ others)
+then_any : (kind : FourCc) (o : Option (List ℕ)) (rest : List ℕ) (place : ℕ) (others : List BoxAt) → length kind.0 ≡ 4
+    → length (text_of kind o ++ rest) < 256 ^ 8 → IsBoxes rest (behind_any place kind o) false others
+    → IsBoxes (text_of kind o ++ rest) place false (option_to_list (any_at place kind o) ++ others)
 then_any kind None rest place others four few more = more
 then_any kind (Some body) rest place others four few more = then_box false kind body rest place others four few more
 
@@ -73,7 +78,8 @@ then_any kind (Some body) rest place others four few more = then_box false kind 
 abbrev top_boxes : List ℕ → List ℕ → List ℕ → List BoxAt
 top_boxes ftyp meta mdat =
     let meta_at = 0 + length (box (four "ftyp") ftyp) in
-    written_at 0 (four "ftyp") ftyp ∷ written_at meta_at (four "meta") meta ∷ written_at (meta_at + length (box (four "meta") meta)) (four "mdat") mdat ∷ []
+    let mdat_at = meta_at + length (box (four "meta") meta) in
+    written_at 0 (four "ftyp") ftyp ∷ written_at meta_at (four "meta") meta ∷ written_at mdat_at (four "mdat") mdat ∷ []
 
 are_top : (ftyp meta mdat : List ℕ) → length (box (four "ftyp") ftyp ++ (box (four "meta") meta ++ box (four "mdat") mdat)) < 256 ^ 8
     → IsBoxes (box (four "ftyp") ftyp ++ (box (four "meta") meta ++ box (four "mdat") mdat)) 0 true (top_boxes ftyp meta mdat)
@@ -146,7 +152,8 @@ parts_at place m = record {
 
 abbrev boxes_of : Parts → List BoxAt
 boxes_of p =
-    p.hdlr ∷ p.pitm ∷ p.iinf ∷ (option_to_list p.iref ++ (option_to_list p.iprp ++ (option_to_list p.grpl ++ (option_to_list p.idat ++ option_to_list p.iloc))))
+    let last = option_to_list p.idat ++ option_to_list p.iloc in
+    p.hdlr ∷ p.pitm ∷ p.iinf ∷ (option_to_list p.iref ++ (option_to_list p.iprp ++ (option_to_list p.grpl ++ last)))
 
 -- the later ones
 module _ (place : ℕ) (m : Bodies) where
@@ -165,8 +172,11 @@ module _ (place : ℕ) (m : Bodies) where
   abbrev boxes_from_idat : List BoxAt
   boxes_from_idat = option_to_list (any_at (idat_at place m) (four "idat") m.idat) ++ written_at (iloc_at place m) (four "iloc") m.iloc ∷ []
 
+  abbrev boxes_from_grpl : List BoxAt
+  boxes_from_grpl = option_to_list (any_at (grpl_at place m) (four "grpl") m.grpl) ++ boxes_from_idat
+
   abbrev boxes_from_iprp : List BoxAt
-  boxes_from_iprp = written_at (iprp_at place m) (four "iprp") m.iprp ∷ (option_to_list (any_at (grpl_at place m) (four "grpl") m.grpl) ++ boxes_from_idat)
+  boxes_from_iprp = written_at (iprp_at place m) (four "iprp") m.iprp ∷ boxes_from_grpl
 
   are_later : length from_iprp < 256 ^ 8 → IsBoxes from_iprp (iprp_at place m) false boxes_from_iprp
   are_later few =
@@ -177,7 +187,7 @@ module _ (place : ℕ) (m : Bodies) where
       let in_iloc = last_box false (four "iloc") m.iloc (iloc_at place m) refl few_iloc in
       let in_idat = then_any (four "idat") m.idat from_iloc (idat_at place m) last refl few_idat in_iloc in
       let in_grpl = then_any (four "grpl") m.grpl from_idat (grpl_at place m) boxes_from_idat refl few_grpl in_idat in
-      then_box false (four "iprp") m.iprp from_grpl (iprp_at place m) (option_to_list (any_at (grpl_at place m) (four "grpl") m.grpl) ++ boxes_from_idat) refl few in_grpl
+      then_box false (four "iprp") m.iprp from_grpl (iprp_at place m) boxes_from_grpl refl few in_grpl
 
   are_boxes : length (text m) < 256 ^ 8 → IsBoxes (text m) place false (boxes_of (parts_at place m))
   are_boxes few =
@@ -196,15 +206,16 @@ module _ (place : ℕ) (m : Bodies) where
       then_box false (four "hdlr") m.hdlr from_pitm place (written_at (pitm_at place m) (four "pitm") m.pitm ∷ boxes_from_iinf) refl few in_pitm
 
 are_parts_of : (place : ℕ) (hdlr pitm iinf iprp iloc : List ℕ) (iref grpl idat : Option (List ℕ))
-    → (let m : Bodies = record { hdlr = hdlr; pitm = pitm; iinf = iinf; iref = iref; iprp = iprp; grpl = grpl; idat = idat; iloc = iloc } in AreParts (boxes_of (parts_at place m)) (parts_at place m))
-are_parts_of place h p i q l None None None = record { hdlr = refl; pitm = refl; iinf = refl; iloc = refl; iref = refl; iprp = refl; grpl = refl; idat = refl; no_ipro = refl; no_xml = refl; no_bxml = refl }
-are_parts_of place h p i q l None None (Some c) = record { hdlr = refl; pitm = refl; iinf = refl; iloc = refl; iref = refl; iprp = refl; grpl = refl; idat = refl; no_ipro = refl; no_xml = refl; no_bxml = refl }
-are_parts_of place h p i q l None (Some b) None = record { hdlr = refl; pitm = refl; iinf = refl; iloc = refl; iref = refl; iprp = refl; grpl = refl; idat = refl; no_ipro = refl; no_xml = refl; no_bxml = refl }
-are_parts_of place h p i q l None (Some b) (Some c) = record { hdlr = refl; pitm = refl; iinf = refl; iloc = refl; iref = refl; iprp = refl; grpl = refl; idat = refl; no_ipro = refl; no_xml = refl; no_bxml = refl }
-are_parts_of place h p i q l (Some a) None None = record { hdlr = refl; pitm = refl; iinf = refl; iloc = refl; iref = refl; iprp = refl; grpl = refl; idat = refl; no_ipro = refl; no_xml = refl; no_bxml = refl }
-are_parts_of place h p i q l (Some a) None (Some c) = record { hdlr = refl; pitm = refl; iinf = refl; iloc = refl; iref = refl; iprp = refl; grpl = refl; idat = refl; no_ipro = refl; no_xml = refl; no_bxml = refl }
-are_parts_of place h p i q l (Some a) (Some b) None = record { hdlr = refl; pitm = refl; iinf = refl; iloc = refl; iref = refl; iprp = refl; grpl = refl; idat = refl; no_ipro = refl; no_xml = refl; no_bxml = refl }
-are_parts_of place h p i q l (Some a) (Some b) (Some c) = record { hdlr = refl; pitm = refl; iinf = refl; iloc = refl; iref = refl; iprp = refl; grpl = refl; idat = refl; no_ipro = refl; no_xml = refl; no_bxml = refl }
+    → (let m : Bodies = record { hdlr = hdlr; pitm = pitm; iinf = iinf; iref = iref; iprp = iprp; grpl = grpl; idat = idat; iloc = iloc } in
+      AreParts (boxes_of (parts_at place m)) (parts_at place m))
+are_parts_of place h p i q l None None None = search
+are_parts_of place h p i q l None None (Some c) = search
+are_parts_of place h p i q l None (Some b) None = search
+are_parts_of place h p i q l None (Some b) (Some c) = search
+are_parts_of place h p i q l (Some a) None None = search
+are_parts_of place h p i q l (Some a) None (Some c) = search
+are_parts_of place h p i q l (Some a) (Some b) None = search
+are_parts_of place h p i q l (Some a) (Some b) (Some c) = search
 
 are_parts : (place : ℕ) (m : Bodies) → AreParts (boxes_of (parts_at place m)) (parts_at place m)
 are_parts place m = are_parts_of place m.hdlr m.pitm m.iinf m.iprp m.iloc m.iref m.grpl m.idat
@@ -254,29 +265,32 @@ pub laid_out : (s : ItemStore) (w : ℕ) (F : List ℕ) → Lay s w F → IsLaid
 unfolding laid
 laid_out s w F lay =
     let n = length F in
+    let ftyp = ftyp_body s.brands in
     let meta = meta_body own w n s in
+    let mdat = mdat_body own s.items in
     let m = bodies_of w n s in
-    let a = box (four "ftyp") (ftyp_body s.brands) in
+    let a = box (four "ftyp") ftyp in
     let b = box (four "meta") meta in
-    let c = box (four "mdat") (mdat_body own s.items) in
+    let c = box (four "mdat") mdat in
     let made : F ≡ a ++ (b ++ c) = lay.bytes ∙ append_assoc a b c in
     let size : n < 256 ^ 8 = lay.numbers.size in
     let few : length (a ++ (b ++ c)) < 256 ^ 8 = omega (arith, size, ap length made) in
-    let four_bytes : length (full 0 0) ≡ 4 = simp (length-append, length-num) (omega arith) in
     let whole : meta ≡ full 0 0 ++ text m = meta_is w n s in
-    let meta_len : length meta ≡ 4 + length (text m) = ap length whole ∙ length-append (full 0 0) (text m) ∙ ap (λ (k : ℕ). k + length (text m)) four_bytes in
-    let rest : drop 4 meta ≡ text m = ap (drop 4) whole ∙ drop_at (full 0 0) (text m) 4 four_bytes in
+    let front : length (full 0 0) ≡ 4 = simp (length-append, length-num) (omega arith) in
+    let meta_len : length meta ≡ 4 + length (text m) = omega (arith, ap length whole, length-append (full 0 0) (text m), front) in
+    let meta_few = has_size (four "meta") meta refl (omega (arith, few, length-append a (b ++ c), length-append b c)) in
+    let rest : drop 4 meta ≡ text m = ap (drop 4) whole ∙ drop_at (full 0 0) (text m) 4 front in
     let place = (0 + length a) + head_len (length meta) + 4 in
-    let meta_few : length meta + 16 < 256 ^ 8 = omega (arith, has_size (four "meta") meta refl (omega (arith, few, length-append a (b ++ c), length-append b c))) in
+    let children = boxes_of (parts_at place m) in
     record {
-      top = top_boxes (ftyp_body s.brands) meta (mdat_body own s.items);
-      boxes = subst (λ (l : List ℕ). IsBoxes l 0 true (top_boxes (ftyp_body s.brands) meta (mdat_body own s.items))) (sym made) (are_top (ftyp_body s.brands) meta (mdat_body own s.items) few);
-      ftyp = written_at 0 (four "ftyp") (ftyp_body s.brands);
+      top = top_boxes ftyp meta mdat;
+      boxes = subst (λ (l : List ℕ). IsBoxes l 0 true (top_boxes ftyp meta mdat)) (sym made) (are_top ftyp meta mdat few);
+      ftyp = written_at 0 (four "ftyp") ftyp;
       meta = written_at (0 + length a) (four "meta") meta;
       level = record { first = refl; one_ftyp = refl; one_meta = refl; no_moov = refl; no_moof = refl };
       full = omega (arith, meta_len);
-      children = boxes_of (parts_at place m);
-      inner = subst (λ (l : List ℕ). IsBoxes l place false (boxes_of (parts_at place m))) (sym rest) (are_boxes place m (omega (arith, meta_len, meta_few)));
+      children = children;
+      inner = subst (λ (l : List ℕ). IsBoxes l place false children) (sym rest) (are_boxes place m (omega (arith, meta_len, meta_few)));
       parts = parts_at place m;
       are_parts = are_parts place m;
       brands = refl;
@@ -284,8 +298,8 @@ laid_out s w F lay =
       pitm = refl;
       iinf = refl;
       iloc = (_, refl, refl);
-      iref = has_body (four "iref") (iref_body (is_wide s.items)) (all_boxes s.items) _;
+      iref = has_body (four "iref") (iref_body (is_wide s.items)) (all_boxes s.items) (iref_at place m);
       iprp = (_, refl, refl);
-      grpl = has_body (four "grpl") grpl_body s.groups _;
-      idat = has_body (four "idat") bytes_in (filter in_idat s.items) _;
+      grpl = has_body (four "grpl") grpl_body s.groups (grpl_at place m);
+      idat = has_body (four "idat") bytes_in (filter in_idat s.items) (idat_at place m);
     }

@@ -35,7 +35,8 @@ rises_all low [] rises = tt
 rises_all low (x ∷ xs) rises = rises.1
 
 -- the keys of some rise where those of all do
-pub some_rise : {A : Type 0} (key : A → ℕ) (test : A → Bool) (low first : ℕ) (xs : List A) → low ≤ first → RisesFrom ◌<◌ first (map key xs) → RisesFrom ◌<◌ low (map key (filter test xs))
+pub some_rise : {A : Type 0} (key : A → ℕ) (test : A → Bool) (low first : ℕ) (xs : List A) → low ≤ first
+    → RisesFrom ◌<◌ first (map key xs) → RisesFrom ◌<◌ low (map key (filter test xs))
 some_rise key test low first [] le rises = tt
 some_rise key test low first (x ∷ xs) le rises =
     elim (cases_Bool (test x)) [
@@ -58,7 +59,8 @@ up_to_more : {A : Type 0} (key : A → ℕ) (low top : ℕ) (xs : List A) → lo
 up_to_more key low top [] le below = tt
 up_to_more key low top (x ∷ xs) le below = (omega (arith, le, below.0), up_to_more key low top xs le below.1)
 
-fold_same : {A : Type 0} (key : A → ℕ) (low : ℕ) (earlier xs : List A) → UpTo key low earlier → RisesFrom ◌<◌ low (map key xs) → fold (put_in key) earlier xs ≡ earlier ++ xs
+fold_same : {A : Type 0} (key : A → ℕ) (low : ℕ) (earlier xs : List A) → UpTo key low earlier
+    → RisesFrom ◌<◌ low (map key xs) → fold (put_in key) earlier xs ≡ earlier ++ xs
 fold_same key low earlier [] below rises = sym (append-nil earlier)
 fold_same {A = A} key low earlier (x ∷ xs) below rises =
     let top = up_to_more key low (key x) earlier (omega (arith, rises.0)) below in

@@ -25,7 +25,8 @@ use Rattle.hf_canon.proofs.Boxes.{has_size, behind_few, then_box, last_box}
 
 module _ {A : Type 0} (kind : A → FourCc) (body : A → List ℕ) where
   -- boxes have a size where all of them together have a length
-  pub each_sized : (xs : List A) → AllByRecursion (λ (x : A). length (kind x).0 ≡ 4) xs → length (flat_map (λ (x : A). box (kind x) (body x)) xs) < 256 ^ 8 → AllByRecursion (HasSize kind body) xs
+  pub each_sized : (xs : List A) → AllByRecursion (λ (x : A). length (kind x).0 ≡ 4) xs
+      → length (flat_map (λ (x : A). box (kind x) (body x)) xs) < 256 ^ 8 → AllByRecursion (HasSize kind body) xs
   each_sized [] four few = tt
   each_sized (x ∷ xs) four few =
       let text : A → List ℕ = λ y. box (kind y) (body y) in
@@ -63,7 +64,8 @@ ref_stands wide place r w =
       to = ids_written width r.to w.to;
     }
 
-pub refs_stand : (b : BoxAt) (wide : Bool) (links : List RefBox) → b.body ≡ iref_body wide links → AllByRecursion (IsWritableRef wide) links → length (iref_body wide links) < 256 ^ 8 → IsIref b links
+pub refs_stand : (b : BoxAt) (wide : Bool) (links : List RefBox) → b.body ≡ iref_body wide links → AllByRecursion (IsWritableRef wide) links
+    → length (iref_body wide links) < 256 ^ 8 → IsIref b links
 unfolding iref_body
 refs_stand b wide links is each few =
     let place = b.at + b.head + 4 in
@@ -101,7 +103,8 @@ group_stands place g w =
       entities = ids_written 4 g.entities w.entities;
     }
 
-pub groups_stand : (b : BoxAt) (groups : List Group) → b.body ≡ grpl_body groups → AllByRecursion IsWritableGroup groups → IsTrue (are_distinct (group_ids groups)) → IsGrpl b groups
+pub groups_stand : (b : BoxAt) (groups : List Group) → b.body ≡ grpl_body groups → AllByRecursion IsWritableGroup groups
+    → IsTrue (are_distinct (group_ids groups)) → IsGrpl b groups
 unfolding grpl_body
 groups_stand b groups is each distinct =
     let place = b.at + b.head in
