@@ -16,7 +16,8 @@ use Rattle.hf_canon.specs.Laws.{CanonDenotes, EqualFilesEqualStores}
 use Rattle.hf_canon.proofs.Boxes.{laid_out}
 use Rattle.hf_canon.proofs.Items.{items_are, groups_come_back}
 use Rattle.hf_canon.proofs.LaidOut.{tables_of}
-use Rattle.hf_canon.proofs.Records.{infos_are, locs_are, links_are, props_are, groups_are, needs_are, picks_are}
+use Rattle.hf_canon.proofs.Naming.{needs_are, picks_are}
+use Rattle.hf_canon.proofs.Records.{infos_are, locs_are, links_are, props_are, groups_are}
 
 -- a layout with offsets of four bytes, or of eight
 lay_denotes : (s : ItemStore) (w : ℕ) (F : List ℕ) → Valid s → (w ≡ 4) ⊎ (w ≡ 8) → Lay s w F → Denotes F s

@@ -43,7 +43,7 @@ use Rattle.hf_read.specs.Tables.{Tables, infos_by_id, item_ids, located_in, item
 use Rattle.hf_read.proofs.KeptProps.{props_are_selected}
 use Rattle.hf_read.proofs.KeptRefs.{refs_are_kept}
 use Rattle.hf_canon.proofs.LaidOut.{HasBodyIfAny, tables_of}
-use Rattle.hf_canon.proofs.Records.{each_box, infos_stay, item_ids-are, picks_are}
+use Rattle.hf_canon.proofs.Naming.{good_ref, each_box, infos_stay, item_ids-are, picks_are}
 use Rattle.hf_canon.proofs.Rising.{rising_same}
 
 -- ---- lists

@@ -8,13 +8,13 @@ use Rattle.std.proofs.lemmas.List.Concat.{flat_map-cons}
 use Rattle.hf_base.specs.Entries.{are_distinct}
 use Rattle.hf_base.specs.Members.{IsIn, RisesFrom, Rises}
 use Rattle.hf_base.specs.declared.four.FourCc.{FourCc}
-use Rattle.hf_base.specs.declared.kinds.TheConstants.{INFE}
+use Rattle.hf_base.specs.declared.kinds.TheConstants.{IINF, INFE}
 use Rattle.hf_base.specs.declared.limits.TheConstants.{BOXES}
 use Rattle.hf_base.specs.declared.loc.RefBox.{RefBox}
 use Rattle.hf_box.specs.Boxes.{BoxAt}
 use Rattle.hf_box.specs.Literals.{four}
 use Rattle.hf_box.specs.Written.{bit, id_width}
-use Rattle.hf_info.specs.Infe.{IsGoodInfo, infe_body, infe_box, IsWritable as IsWritableInfo}
+use Rattle.hf_info.specs.Infe.{Info, IsGoodInfo, infe_body, infe_box, IsWritable as IsWritableInfo}
 use Rattle.hf_info.specs.Iinf.{info_ids, IsIinf, iinf_body}
 use Rattle.hf_info.proofs.IinfWritten.{iinf_written}
 use Rattle.hf_links.specs.Grpl.{group_ids, group_body, group_box, grpl_body, IsWritable as IsWritableGroup}
@@ -26,7 +26,8 @@ use Rattle.hf_prop.specs.declared.assoc.Assoc.{Assoc}
 use Rattle.hf_prop.specs.declared.assoc.Pick.{Pick}
 use Rattle.hf_prop.specs.Ipma.{assoc_ids, IsWritable as IsWritableAssoc}
 use Rattle.hf_prop.specs.Iprp.{is_long_table, iprp_body}
-use Rattle.hf_store.specs.Layout.{own, is_wide, info_of, infos_of, item_boxes, all_boxes, has_props, assoc_of, assocs_of, iprp_of, has_bytes, with_bytes, in_idat, entry_of, entries_of, box_if_any, meta_front}
+use Rattle.hf_store.specs.Layout.{own, is_wide, info_of, infos_of, all_boxes, has_props, assoc_of, assocs_of, iprp_of, has_bytes, in_idat, entry_of, entries_of}
+use Rattle.hf_store.specs.Layout.{box_if_any, meta_front}
 use Rattle.hf_store.specs.Picks.{pick_of}
 use Rattle.hf_store.specs.Store.{Prop, Held, Item, Group, ItemStore, ids_of}
 use Rattle.hf_store.specs.Table.{same_prop, props_of, with_prop, table_of, number_of}
@@ -42,15 +43,11 @@ use Rattle.hf_read.specs.Tables.{AreLocs, AreLinks, AreProps, AreGroups, infos_b
 use Rattle.hf_read.proofs.Filters.{from_flat}
 use Rattle.hf_canon.proofs.LaidOut.{HasBody, HasBodyIfAny}
 use Rattle.hf_canon.proofs.Boxes.{has_size, behind_few}
-use Rattle.hf_canon.proofs.Rising.{distinct_from, distinct_rises, rises_all, some_rise, rising_same}
-use Rattle.hf_canon.proofs.Written.{refs_stand, groups_stand, props_stand}
+use Rattle.hf_canon.proofs.Naming.{all_map, good_item, good_ref, each_box, ids_of_infos}
+use Rattle.hf_canon.proofs.Rising.{distinct_from, distinct_rises, some_rise}
+use Rattle.hf_canon.proofs.Written.{HasFour, refs_stand, groups_stand, props_stand}
 
--- ---- lists
-
-pub all_map : {A B : Type 0} (P : B → Type 0) (f : A → B) (xs : List A) → AllByRecursion (λ (x : A). P (f x)) xs → AllByRecursion P (map f xs)
-all_map P f [] all = tt
-all_map P f (x ∷ xs) all = (all.0, all_map P f xs all.1)
-
+-- some of them are no more than all
 length-some : {A : Type 0} (test : A → Bool) (xs : List A) → length (filter test xs) ≤ length xs
 length-some test [] = omega arith
 length-some test (x ∷ xs) =
@@ -79,7 +76,8 @@ are_short s w F lay =
 
 -- what stands in a box that is there where something is listed in it
 any_is : {A : Type 0} (kind : FourCc) (body : List A → List ℕ) (P : Option BoxAt → List A → Type 0) (xs : List A) → P None []
-    → (length (body xs) < 256 ^ 8 → (b : BoxAt) → b.body ≡ body xs → P (Some b) xs) → length (box_if_any kind body xs) < 256 ^ 8 → (o : Option BoxAt) → HasBodyIfAny body xs o → P o xs
+    → (length (body xs) < 256 ^ 8 → (b : BoxAt) → b.body ≡ body xs → P (Some b) xs) → length (box_if_any kind body xs) < 256 ^ 8
+    → (o : Option BoxAt) → HasBodyIfAny body xs o → P o xs
 unfolding box_if_any
 any_is kind body P [] none some few o e = subst (λ (p : Option BoxAt). P p []) (sym e) none
 any_is kind body P (x ∷ xs) none some few o (b, e, is) =
@@ -100,11 +98,13 @@ good_info all i good some = record {
   only_uri = good.only_uri;
 }
 
-infos_written : (wide : Bool) (table : List Prop) (all is : List Item) (low : ℕ) → AllByRecursion (IsGoodItem all) is → AllByRecursion (IsWrittenItem wide table) is → RisesFrom ◌<◌ low (ids_of is)
-    → length (flat_map (infe_box wide) (infos_of is)) < 256 ^ 8 → AllByRecursion (IsWritableInfo wide) (infos_of is)
+infos_written : (wide : Bool) (table : List Prop) (all is : List Item) (low : ℕ) → AllByRecursion (IsGoodItem all) is
+    → AllByRecursion (IsWrittenItem wide table) is → RisesFrom ◌<◌ low (ids_of is) → length (flat_map (infe_box wide) (infos_of is)) < 256 ^ 8
+    → AllByRecursion (IsWritableInfo wide) (infos_of is)
 infos_written wide table all [] low good written rises few = tt
 infos_written wide table all (i ∷ is) low good written rises few =
-    let sum = ap length (flat_map-cons (infe_box wide) (info_of i) (infos_of is)) ∙ length-append (infe_box wide (info_of i)) (flat_map (infe_box wide) (infos_of is)) in (
+    let box = infe_box wide in
+    let sum = ap length (flat_map-cons box (info_of i) (infos_of is)) ∙ length-append (box (info_of i)) (flat_map box (infos_of is)) in (
       record {
         good = good_info all i good.0 (omega (arith, rises.0));
         id_fits = written.0.id;
@@ -113,40 +113,29 @@ infos_written wide table all (i ∷ is) low good written rises few =
       infos_written wide table all is i.id good.1 written.1 rises.1 (omega (arith, few, sum)),
     )
 
-pub ids_of_infos : (is : List Item) → info_ids (infos_of is) ≡ ids_of is
-ids_of_infos [] = refl
-ids_of_infos (i ∷ is) = ap (λ (l : List ℕ). i.id ∷ l) (ids_of_infos is)
-
-entries_few : (wide : Bool) (is : List Item) → length (iinf_body wide (infos_of is)) < 256 ^ 8 → length (flat_map (infe_box wide) (infos_of is)) < 256 ^ 8
+entries_few : (wide : Bool) (infos : List Info) → length (iinf_body wide infos) < 256 ^ 8 → length (flat_map (infe_box wide) infos) < 256 ^ 8
 unfolding iinf_body
-entries_few wide is few = behind_few _ (flat_map (infe_box wide) (infos_of is)) few
+entries_few wide infos few = behind_few _ (flat_map (infe_box wide) infos) few
 
-pub infos_are : (s : ItemStore) (w : ℕ) (F : List ℕ) → Valid s → Lay s w F → (b : BoxAt) → b.body ≡ iinf_body (is_wide s.items) (infos_of s.items) → IsIinf b (infos_of s.items)
-infos_are s w F valid lay b is =
-    let wide = is_wide s.items in
-    let count : length (infos_of s.items) ≡ length s.items = length-map s.items info_of in
-    let small = entries_few wide s.items (are_short s w F lay).iinf in
-    let each = infos_written wide (table_of s) s.items s.items 0 valid.items lay.numbers.items valid.ids_rise small in
-    let distinct = ap are_distinct (ids_of_infos s.items) ∙ distinct_from 0 (ids_of s.items) valid.ids_rise in
-    let fits = subst (λ (n : ℕ). n < 256 ^ id_width wide) (sym count) lay.numbers.count in
-    let few : length (infos_of s.items) ≤ BOXES = omega (arith, count, valid.count) in
-    let stands = (iinf_written wide b.at b.head (infos_of s.items) each distinct fits few).0 in
-    record {
-      version = stands.version;
-      flags = stands.flags;
-      flags_fit = stands.flags_fit;
-      width = stands.width;
-      versioned = stands.versioned;
-      count_fits = stands.count_fits;
-      inner = stands.inner;
-      is = is ∙ stands.is;
-      boxes = stands.boxes;
-      framed = stands.framed;
-      entries = stands.entries;
-      distinct = stands.distinct;
-    }
+-- what stands in a body stands in a box with that body, whatever its type
+stands_there : (b : BoxAt) (body : List ℕ) (infos : List Info) → b.body ≡ body → IsIinf (record { kind = IINF; at = b.at; head = b.head; body = body }) infos
+    → IsIinf b infos
+stands_there b body infos is stands = record {
+  version = stands.version;
+  flags = stands.flags;
+  flags_fit = stands.flags_fit;
+  width = stands.width;
+  versioned = stands.versioned;
+  count_fits = stands.count_fits;
+  inner = stands.inner;
+  is = is ∙ stands.is;
+  boxes = stands.boxes;
+  framed = stands.framed;
+  entries = stands.entries;
+  distinct = stands.distinct;
+}
 
--- ---- iloc
+-- ---- the parts of other entries
 
 bit_small : (b : Bool) → bit b < 16
 bit_small true = omega arith
@@ -156,58 +145,12 @@ ids_of_entries : (end : ℕ) (all is : List Item) → map (λ (e : Entry). e.id)
 ids_of_entries end all [] = refl
 ids_of_entries end all (i ∷ is) = ap (λ (l : List ℕ). i.id ∷ l) (ids_of_entries end all is)
 
-some_bytes : Item → Bool
-some_bytes i = has_bytes i.bytes
+ids_of_assocs : (table : List Prop) (is : List Item) → assoc_ids (map (assoc_of table) is) ≡ ids_of is
+ids_of_assocs table [] = refl
+ids_of_assocs table (i ∷ is) = ap (λ (l : List ℕ). i.id ∷ l) (ids_of_assocs table is)
 
-pub locs_are : (s : ItemStore) (w : ℕ) (F : List ℕ) → Valid s → Lay s w F → (w ≡ 4) ⊎ (w ≡ 8) → (o : Option BoxAt) → HasBody (iloc_body (is_wide s.items) w (entries_of own (length F) s.items)) o
-    → AreLocs o (map loc_of (entries_of own (length F) s.items))
-unfolding some_bytes
-locs_are s w F valid lay width o (b, e, is) =
-    let wide = is_wide s.items in
-    let end = length F in
-    let entries = entries_of own end s.items in
-    let placed = with_bytes s.items in
-    let count : length entries ≡ length placed = length-map placed (entry_of own end s.items) in
-    let fewer = length-some some_bytes s.items in
-    let each : AllByRecursion (λ (i : Item). IsWrittenEntry wide w (entry_of own end s.items i)) placed =
-    all_from (λ (i : Item). IsWrittenEntry wide w (entry_of own end s.items i)) placed (λ i h. (
-    let extent = in_all (IsWrittenExtent own w end s.items) placed lay.numbers.extents i h in
-    let item = in_all (IsWrittenItem wide (table_of s)) s.items lay.numbers.items i (in_filter some_bytes s.items i h) in
-    record { id = item.id; method = bit_small (in_idat i); offset = extent.offset; length = extent.length }
-    ))
-    in
-    let rises = some_rise (λ (i : Item). i.id) some_bytes 0 0 s.items (omega arith) valid.ids_rise in
-    let distinct = ap are_distinct (ids_of_entries end s.items placed) ∙ distinct_from 0 (ids_of placed) rises in
-    let fits : length entries < 256 ^ id_width wide = omega (arith, count, fewer, lay.numbers.count) in
-    let stands = iloc_laws.written_is wide w entries width fits (all_map (IsWrittenEntry wide w) (entry_of own end s.items) placed each) distinct in
-    subst (λ (p : Option BoxAt). AreLocs p (map loc_of entries)) (sym e) (subst (λ (l : List ℕ). IsIloc l (map loc_of entries)) (sym is) stands)
-
--- ---- iref
-
--- what holds of each list of each item holds of each box
-pub each_box : (P : RefBox → Type 0) (is : List Item) → ((i : Item) (r : RefList) → IsIn i is → IsIn r i.refs → P (record { kind = r.kind; from = i.id; to = r.to })) → (b : RefBox) → IsIn b (all_boxes is) → P b
-each_box P is each b h =
-    let at = from_flat (λ (i : Item). item_boxes i.id i.refs) is b h in
-    let made : RefList → RefBox = λ r. record { kind = r.kind; from = at.0.id; to = r.to } in
-    let list = from_map made at.0.refs b at.2 in
-    subst P list.2 (each at.0 list.0 at.1 list.1)
-
-pub links_are : (s : ItemStore) (w : ℕ) (F : List ℕ) → Valid s → Lay s w F → (o : Option BoxAt) → HasBodyIfAny (iref_body (is_wide s.items)) (all_boxes s.items) o → AreLinks o (all_boxes s.items)
-links_are s w F valid lay =
-    let wide = is_wide s.items in
-    let each : AllByRecursion (IsWritableRef wide) (all_boxes s.items) =
-    all_from (IsWritableRef wide) (all_boxes s.items) (each_box (IsWritableRef wide) s.items (λ i r among listed. (
-    let item = in_all (IsWrittenItem wide (table_of s)) s.items lay.numbers.items i among in
-    let written = in_all (IsWrittenRef wide) i.refs item.refs r listed in
-    let good = in_all (IsGoodRef s.items) i.refs (in_all (IsGoodItem s.items) s.items valid.items i among).refs r listed in
-    record { kind = good.kind; from = item.id; count = good.links; to = written.1 }
-    )))
-    in
-    any_is (four "iref") (iref_body wide) AreLinks (all_boxes s.items) refl (λ few b is. refs_stand b wide (all_boxes s.items) is each few) (are_short s w F lay).iref
-
--- ---- grpl
-
-groups_written : (all : List Item) (gs : List Group) → AllByRecursion (IsGoodGroup all) gs → AllByRecursion IsWrittenGroup gs → length (flat_map group_box gs) < 256 ^ 8 → AllByRecursion IsWritableGroup gs
+groups_written : (all : List Item) (gs : List Group) → AllByRecursion (IsGoodGroup all) gs → AllByRecursion IsWrittenGroup gs
+    → length (flat_map group_box gs) < 256 ^ 8 → AllByRecursion IsWritableGroup gs
 groups_written all [] good written few = tt
 groups_written all (g ∷ gs) good written few =
     let sum = ap length (flat_map-cons group_box g gs) ∙ length-append (group_box g) (flat_map group_box gs) in (
@@ -223,96 +166,110 @@ groups_written all (g ∷ gs) good written few =
       groups_written all gs good.1 written.1 (omega (arith, few, sum)),
     )
 
-pub groups_are : (s : ItemStore) (w : ℕ) (F : List ℕ) → Valid s → Lay s w F → (o : Option BoxAt) → HasBodyIfAny grpl_body s.groups o → AreGroups o s.groups
-unfolding grpl_body
-groups_are s w F valid lay =
-    let distinct = distinct_rises (group_ids s.groups) valid.groups_rise in
-    any_is (four "grpl") grpl_body AreGroups s.groups refl (λ few b is. groups_stand b s.groups is (groups_written s.items s.groups valid.groups lay.numbers.groups few) distinct) (are_short s w F lay).grpl
-
--- ---- iprp
-
--- what holds of all properties of items holds of those of the table
+-- what holds of all properties holds of those of their table
 all_with : (P : Prop → Type 0) (earlier : List Prop) (p : Prop) → AllByRecursion P earlier → P p → AllByRecursion P (with_prop earlier p)
 all_with P earlier p all here =
-    elim (list_any (same_prop p) earlier) as (λ b. AllByRecursion P (cond b earlier (earlier ++ p ∷ []))) [ true ↦ all | false ↦ all_push P earlier p all here ]
+    let pushed = all_push P earlier p all here in
+    elim (list_any (same_prop p) earlier) as (λ b. AllByRecursion P (cond b earlier (earlier ++ p ∷ []))) [ true ↦ all | false ↦ pushed ]
 
 all_folded : (P : Prop → Type 0) (earlier ps : List Prop) → AllByRecursion P earlier → AllByRecursion P ps → AllByRecursion P (fold with_prop earlier ps)
 all_folded P earlier [] all more = all
 all_folded P earlier (p ∷ ps) all more = all_folded P (with_prop earlier p) ps (all_with P earlier p all more.0) more.1
 
-abbrev HasFour : Prop → Type 0
-HasFour p = length p.kind.0 ≡ 4
-
 kinds_are : (s : ItemStore) → Valid s → AllByRecursion HasFour (table_of s)
 unfolding table_of
 kinds_are s valid =
-    all_folded HasFour [] (flat_map props_of s.items) tt (all_from HasFour (flat_map props_of s.items) (λ p h. (
+    let used = flat_map props_of s.items in
+    let each : (p : Prop) → IsIn p used → HasFour p = λ p h.
     let at = from_flat props_of s.items p h in
     let held = from_map (λ (k : Held). k.prop) at.0.props p at.2 in
-    let good = in_all (IsGoodItem s.items) s.items valid.items at.0 at.1 in
-    subst HasFour held.2 (in_all (λ (k : Held). HasFour k.prop) at.0.props good.prop_kinds held.0 held.1)
-    )))
-
-ids_of_assocs : (table : List Prop) (is : List Item) → assoc_ids (map (assoc_of table) is) ≡ ids_of is
-ids_of_assocs table [] = refl
-ids_of_assocs table (i ∷ is) = ap (λ (l : List ℕ). i.id ∷ l) (ids_of_assocs table is)
-
-pub props_are : (s : ItemStore) (w : ℕ) (F : List ℕ) → Valid s → Lay s w F → (o : Option BoxAt) → HasBody (iprp_body (is_wide s.items) (iprp_of s)) o → AreProps o (iprp_of s)
-props_are s w F valid lay o (b, e, is) =
-    let wide = is_wide s.items in
-    let table = table_of s in
-    let held = filter has_props s.items in
-    let long = is_long_table table in
-    let count : length (assocs_of table s.items) ≡ length held = length-map held (assoc_of table) in
-    let few = length-some has_props s.items in
-    let each : AllByRecursion (λ (i : Item). IsWritableAssoc wide long (assoc_of table i)) held =
-    all_from (λ (i : Item). IsWritableAssoc wide long (assoc_of table i)) held (λ i h. (
-    let item = in_all (IsWrittenItem wide table) s.items lay.numbers.items i (in_filter has_props s.items i h) in
-    record {
-      item = item.id;
-      count = omega (arith, item.props, length-map i.props (pick_of table));
-      picks = all_map (λ (p : Pick). p.index < cond long (2 ^ 15) (2 ^ 7)) (pick_of table) i.props item.numbers;
-    }
-    ))
+    subst HasFour held.2 (in_all (λ (k : Held). HasFour k.prop) at.0.props (good_item s valid at.0 at.1).prop_kinds held.0 held.1)
     in
-    let rises = some_rise (λ (i : Item). i.id) has_props 0 0 s.items (omega arith) valid.ids_rise in
-    let stands = props_stand b wide (iprp_of s) is (record {
-      kinds = kinds_are s valid;
-      each = all_map (IsWritableAssoc wide long) (assoc_of table) held each;
-      count = omega (arith, count, few, valid.count);
-      distinct = ap are_distinct (ids_of_assocs table held) ∙ distinct_from 0 (ids_of held) rises;
-      size = (are_short s w F lay).iprp;
-    }) in
-    subst (λ (p : Option BoxAt). AreProps p (iprp_of s)) (sym e) stands
+    all_folded HasFour [] used tt (all_from HasFour used each)
 
--- ---- what names items, and properties
+-- ---- the records of a layout
 
-pub infos_stay : (s : ItemStore) → Valid s → infos_by_id (infos_of s.items) ≡ infos_of s.items
-infos_stay s valid =
-    let rises = rises_all 0 (ids_of s.items) valid.ids_rise in
-    rising_same (λ i. i.id) (infos_of s.items) (subst (λ ids. Rises ◌<◌ ids) (sym (ids_of_infos s.items)) rises)
+module _ (s : ItemStore) (w : ℕ) (F : List ℕ) (valid : Valid s) (lay : Lay s w F) where
+  abbrev wide : Bool
+  wide = is_wide s.items
 
-pub item_ids-are : (s : ItemStore) → Valid s → item_ids (infos_of s.items) ≡ ids_of s.items
-item_ids-are s valid = ap info_ids (infos_stay s valid) ∙ ids_of_infos s.items
+  abbrev links : List RefBox
+  links = all_boxes s.items
 
-pub needs_are : (s : ItemStore) → Valid s → NeedsAreItems (item_ids (infos_of s.items)) (all_boxes s.items)
-needs_are s valid r among here need =
-    let ids = ids_of s.items in
-    let each = each_box (λ (b : RefBox). AllByRecursion (λ to. IsIn to ids) b.to) s.items (λ i l item listed.
-    (in_all (IsGoodRef s.items) i.refs (in_all (IsGoodItem s.items) s.items valid.items i item).refs l listed).to) r among
-    in
-    subst (λ (l : List ℕ). AllByRecursion (λ to. IsIn to l) r.to) (sym (item_ids-are s valid)) each
+  abbrev entries : List Entry
+  entries = entries_of own (length F) s.items
 
-number_of-le : (p : Prop) (table : List Prop) → number_of p table ≤ length table
-number_of-le p [] = omega arith
-number_of-le p (q ∷ qs) =
-    elim (same_prop p q) as (λ b. cond b 1 (suc (number_of p qs)) ≤ suc (length qs)) [ true ↦ omega arith | false ↦ omega (arith, number_of-le p qs) ]
+  written_item : (i : Item) → IsIn i s.items → IsWrittenItem wide (table_of s) i
+  written_item i among = in_all (IsWrittenItem wide (table_of s)) s.items lay.numbers.items i among
 
-pub picks_are : (s : ItemStore) → PicksAreProps (item_ids (infos_of s.items)) (iprp_of s)
-picks_are s a among here =
-    let table = table_of s in
-    let at = from_map (assoc_of table) (filter has_props s.items) a among in
-    let each : (i : Item) → AllByRecursion (λ (p : Pick). p.index ≤ length table) (map (pick_of table) i.props) =
-    λ i. all_map (λ (p : Pick). p.index ≤ length table) (pick_of table) i.props (all_from (λ (h : Held). number_of h.prop table ≤ length table) i.props (λ h k. number_of-le h.prop table))
-    in
-    subst (λ (b : Assoc). AllByRecursion (λ (p : Pick). p.index ≤ length table) b.picks) at.2 (each at.0)
+  -- the ids of those that pass are distinct
+  distinct_some : (test : Item → Bool) → are_distinct (ids_of (filter test s.items)) ≡ true
+  distinct_some test = distinct_from 0 (ids_of (filter test s.items)) (some_rise (λ (i : Item). i.id) test 0 0 s.items (omega arith) valid.ids_rise)
+
+  pub infos_are : (b : BoxAt) → b.body ≡ iinf_body wide (infos_of s.items) → IsIinf b (infos_of s.items)
+  infos_are b is =
+      let count : length (infos_of s.items) ≡ length s.items = length-map s.items info_of in
+      let small = entries_few wide (infos_of s.items) (are_short s w F lay).iinf in
+      let each = infos_written wide (table_of s) s.items s.items 0 valid.items lay.numbers.items valid.ids_rise small in
+      let distinct = ap are_distinct (ids_of_infos s.items) ∙ distinct_from 0 (ids_of s.items) valid.ids_rise in
+      let fits : length (infos_of s.items) < 256 ^ id_width wide = omega (arith, count, lay.numbers.count) in
+      let few : length (infos_of s.items) ≤ BOXES = omega (arith, count, valid.count) in
+      stands_there b (iinf_body wide (infos_of s.items)) (infos_of s.items) is (iinf_written wide b.at b.head (infos_of s.items) each distinct fits few).0
+
+  pub locs_are : (w ≡ 4) ⊎ (w ≡ 8) → (o : Option BoxAt) → HasBody (iloc_body wide w entries) o → AreLocs o (map loc_of entries)
+  locs_are width o (b, e, is) =
+      let entry = entry_of own (length F) s.items in
+      let IsFit : Item → Type 0 = λ i. IsWrittenEntry wide w (entry i) in
+      let has : Item → Bool = λ i. has_bytes i.bytes in
+      let count : length entries ≡ length (filter has s.items) = length-map (filter has s.items) entry in
+      let fewer = length-some has s.items in
+      let each : AllByRecursion IsFit (filter has s.items) = all_from IsFit (filter has s.items) (λ i h. (
+        let extent = in_all (IsWrittenExtent own w (length F) s.items) (filter has s.items) lay.numbers.extents i h in
+        let item = written_item i (in_filter has s.items i h) in
+        record { id = item.id; method = bit_small (in_idat i); offset = extent.offset; length = extent.length }
+      )) in
+      let all = all_map (IsWrittenEntry wide w) entry (filter has s.items) each in
+      let distinct = ap are_distinct (ids_of_entries (length F) s.items (filter has s.items)) ∙ distinct_some has in
+      let stands = iloc_laws.written_is wide w entries width (omega (arith, count, fewer, lay.numbers.count)) all distinct in
+      subst (λ (p : Option BoxAt). AreLocs p (map loc_of entries)) (sym e) (subst (λ (l : List ℕ). IsIloc l (map loc_of entries)) (sym is) stands)
+
+  pub links_are : (o : Option BoxAt) → HasBodyIfAny (iref_body wide) links o → AreLinks o links
+  links_are =
+      let each : AllByRecursion (IsWritableRef wide) links = all_from (IsWritableRef wide) links (each_box (IsWritableRef wide) s.items (λ i r among listed. (
+        let item = written_item i among in
+        let good = good_ref s valid i r among listed in
+        record { kind = good.kind; from = item.id; count = good.links; to = (in_all (IsWrittenRef wide) i.refs item.refs r listed).1 }
+      ))) in
+      any_is (four "iref") (iref_body wide) AreLinks links refl (λ few b is. refs_stand b wide links is each few) (are_short s w F lay).iref
+
+  pub props_are : (o : Option BoxAt) → HasBody (iprp_body wide (iprp_of s)) o → AreProps o (iprp_of s)
+  props_are o (b, e, is) =
+      let table = table_of s in
+      let held = filter has_props s.items in
+      let long = is_long_table table in
+      let IsFit : Item → Type 0 = λ i. IsWritableAssoc wide long (assoc_of table i) in
+      let count : length (assocs_of table s.items) ≡ length held = length-map held (assoc_of table) in
+      let few = length-some has_props s.items in
+      let each : AllByRecursion IsFit held = all_from IsFit held (λ i h. (
+        let item = written_item i (in_filter has_props s.items i h) in
+        record {
+          item = item.id;
+          count = omega (arith, item.props, length-map i.props (pick_of table));
+          picks = all_map (λ (p : Pick). p.index < cond long (2 ^ 15) (2 ^ 7)) (pick_of table) i.props item.numbers;
+        }
+      )) in
+      let stands = props_stand b wide (iprp_of s) is (record {
+        kinds = kinds_are s valid;
+        each = all_map (IsWritableAssoc wide long) (assoc_of table) held each;
+        count = omega (arith, count, few, valid.count);
+        distinct = ap are_distinct (ids_of_assocs table held) ∙ distinct_some has_props;
+        size = (are_short s w F lay).iprp;
+      }) in
+      subst (λ (p : Option BoxAt). AreProps p (iprp_of s)) (sym e) stands
+
+  pub groups_are : (o : Option BoxAt) → HasBodyIfAny grpl_body s.groups o → AreGroups o s.groups
+  unfolding grpl_body
+  groups_are =
+      let distinct = distinct_rises (group_ids s.groups) valid.groups_rise in
+      let each : length (grpl_body s.groups) < 256 ^ 8 → AllByRecursion IsWritableGroup s.groups = groups_written s.items s.groups valid.groups lay.numbers.groups in
+      any_is (four "grpl") grpl_body AreGroups s.groups refl (λ few b is. groups_stand b s.groups is (each few) distinct) (are_short s w F lay).grpl

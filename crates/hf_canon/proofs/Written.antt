@@ -53,6 +53,8 @@ ref_stands : (wide : Bool) (place : ℕ) (r : RefBox) → IsWritableRef wide r �
 unfolding reference_body
 ref_stands wide place r w =
     let width = id_width wide in
+    let from = num r.from width in
+    let count = num (length r.to) 2 in
     let ids = flat_map (λ id. num id width) r.to in
     record {
       kind = refl;
@@ -60,7 +62,7 @@ ref_stands wide place r w =
       count = omega (arith, w.count);
       ids = ids;
       rest = [];
-      is = append_assoc (num r.from width) (num (length r.to) 2) ids ∙ ap (λ (l : List ℕ). num r.from width ++ (num (length r.to) 2 ++ l)) (sym (append-nil ids));
+      is = append_assoc from count ids ∙ ap (λ (l : List ℕ). from ++ (count ++ l)) (sym (append-nil ids));
       to = ids_written width r.to w.to;
     }
 
@@ -122,7 +124,7 @@ groups_stand b groups is each distinct =
 abbrev kind_of_prop : Prop → FourCc
 kind_of_prop p = p.kind
 
-abbrev HasFour : Prop → Type 0
+abbrev pub HasFour : Prop → Type 0
 HasFour p = length p.kind.0 ≡ 4
 
 abbrev body_of_prop : Prop → List ℕ
