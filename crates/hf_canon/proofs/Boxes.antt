@@ -207,7 +207,7 @@ module _ (place : ℕ) (m : Bodies) where
 
 are_parts_of : (place : ℕ) (hdlr pitm iinf iprp iloc : List ℕ) (iref grpl idat : Option (List ℕ))
     → (let m : Bodies = record { hdlr = hdlr; pitm = pitm; iinf = iinf; iref = iref; iprp = iprp; grpl = grpl; idat = idat; iloc = iloc } in
-      AreParts (boxes_of (parts_at place m)) (parts_at place m))
+    AreParts (boxes_of (parts_at place m)) (parts_at place m))
 are_parts_of place h p i q l None None None = search
 are_parts_of place h p i q l None None (Some c) = search
 are_parts_of place h p i q l None (Some b) None = search

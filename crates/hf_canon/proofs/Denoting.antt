@@ -23,6 +23,9 @@ use Rattle.hf_canon.proofs.Records.{infos_are, locs_are, links_are, props_are, g
 lay_denotes : (s : ItemStore) (w : ℕ) (F : List ℕ) → Valid s → (w ≡ 4) ⊎ (w ≡ 8) → Lay s w F → Denotes F s
 lay_denotes s w F valid width lay =
     let l = laid_out s w F lay in
+    let good = valid.brands in
+    let brands = ftyp_laws.written_is s.brands good.major good.minor good.fours in
+    let primary = pitm_laws.written_is (is_wide s.items) s.primary lay.numbers.primary in
     record {
       top = l.top;
       boxes = l.boxes;
@@ -34,9 +37,9 @@ lay_denotes s w F valid width lay =
       inner = l.inner;
       parts = l.parts;
       are_parts = l.are_parts;
-      brands = subst (λ (body : List ℕ). IsFtyp body s.brands) (sym l.brands) (ftyp_laws.written_is s.brands valid.brands.major valid.brands.minor valid.brands.fours);
+      brands = subst (λ (body : List ℕ). IsFtyp body s.brands) (sym l.brands) brands;
       picture = subst IsHdlr (sym l.hdlr) hdlr_laws.written_is;
-      primary = subst (λ (body : List ℕ). IsPitm body s.primary) (sym l.pitm) (pitm_laws.written_is (is_wide s.items) s.primary lay.numbers.primary);
+      primary = subst (λ (body : List ℕ). IsPitm body s.primary) (sym l.pitm) primary;
       tables = tables_of (length F) s;
       infos = infos_are s w F valid lay l.parts.iinf l.iinf;
       locs = locs_are s w F valid lay width l.parts.iloc l.iloc;

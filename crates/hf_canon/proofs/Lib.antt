@@ -4,5 +4,6 @@ pub mod Boxes
 pub mod Written
 pub mod Naming
 pub mod Records
+pub mod Bytes
 pub mod Items
 pub mod Denoting

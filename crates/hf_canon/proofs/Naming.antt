@@ -31,7 +31,8 @@ pub good_ref : (s : ItemStore) → Valid s → (i : Item) (r : RefList) → IsIn
 good_ref s valid i r among listed = in_all (IsGoodRef s.items) i.refs (good_item s valid i among).refs r listed
 
 -- what holds of each list of each item holds of each box that is written
-pub each_box : (P : RefBox → Type 0) (is : List Item) → ((i : Item) (r : RefList) → IsIn i is → IsIn r i.refs → P (record { kind = r.kind; from = i.id; to = r.to }))
+pub each_box : (P : RefBox → Type 0) (is : List Item)
+    → ((i : Item) (r : RefList) → IsIn i is → IsIn r i.refs → P (record { kind = r.kind; from = i.id; to = r.to }))
     → (b : RefBox) → IsIn b (all_boxes is) → P b
 each_box P is each b h =
     let at = from_flat (λ (i : Item). item_boxes i.id i.refs) is b h in

@@ -1,12 +1,12 @@
 -- The records of a layout have the tables of its store.
-use Rattle.std.proofs.Common.{◌≡◌, ◌^◌, ◌<◌, ◌≤◌, ◌⊎◌, ℕ, suc, Bool, true, false, cond, List, [], ◌∷◌, ◌++◌, length, map, Option, Some, None}
+use Rattle.std.proofs.Common.{◌≡◌, ◌^◌, ◌<◌, ◌≤◌, ◌⊎◌, ℕ, Bool, true, false, cond, List, [], ◌∷◌, ◌++◌, length, map, Option, Some, None}
 use Rattle.std.proofs.Common.{refl, sym, ap, subst, ◌∙◌, length-append, arith, inl, inr}
 use Rattle.std.specs.List.{AllByRecursion, filter, flat_map, fold, list_any}
 use Rattle.std.proofs.lemmas.Bool.{cases_Bool}
 use Rattle.std.proofs.lemmas.List.{length-map}
 use Rattle.std.proofs.lemmas.List.Concat.{flat_map-cons}
 use Rattle.hf_base.specs.Entries.{are_distinct}
-use Rattle.hf_base.specs.Members.{IsIn, RisesFrom, Rises}
+use Rattle.hf_base.specs.Members.{IsIn, RisesFrom}
 use Rattle.hf_base.specs.declared.four.FourCc.{FourCc}
 use Rattle.hf_base.specs.declared.kinds.TheConstants.{IINF, INFE}
 use Rattle.hf_base.specs.declared.limits.TheConstants.{BOXES}
@@ -15,14 +15,13 @@ use Rattle.hf_box.specs.Boxes.{BoxAt}
 use Rattle.hf_box.specs.Literals.{four}
 use Rattle.hf_box.specs.Written.{bit, id_width}
 use Rattle.hf_info.specs.Infe.{Info, IsGoodInfo, infe_body, infe_box, IsWritable as IsWritableInfo}
-use Rattle.hf_info.specs.Iinf.{info_ids, IsIinf, iinf_body}
+use Rattle.hf_info.specs.Iinf.{IsIinf, iinf_body}
 use Rattle.hf_info.proofs.IinfWritten.{iinf_written}
 use Rattle.hf_links.specs.Grpl.{group_ids, group_body, group_box, grpl_body, IsWritable as IsWritableGroup}
 use Rattle.hf_links.specs.Iref.{iref_body, IsWritable as IsWritableRef}
 use Rattle.hf_loc.specs.Iloc.{Entry, loc_of, IsIloc, iloc_body, IsWritten as IsWrittenEntry}
 use Rattle.hf_loc.proofs.WrittenLemmas as iloc_laws
 use Rattle.hf_order.proofs.Members.{in_all, all_from, from_map, in_filter, all_push}
-use Rattle.hf_prop.specs.declared.assoc.Assoc.{Assoc}
 use Rattle.hf_prop.specs.declared.assoc.Pick.{Pick}
 use Rattle.hf_prop.specs.Ipma.{assoc_ids, IsWritable as IsWritableAssoc}
 use Rattle.hf_prop.specs.Iprp.{is_long_table, iprp_body}
@@ -30,16 +29,14 @@ use Rattle.hf_store.specs.Layout.{own, is_wide, info_of, infos_of, all_boxes, ha
 use Rattle.hf_store.specs.Layout.{box_if_any, meta_front}
 use Rattle.hf_store.specs.Picks.{pick_of}
 use Rattle.hf_store.specs.Store.{Prop, Held, Item, Group, ItemStore, ids_of}
-use Rattle.hf_store.specs.Table.{same_prop, props_of, with_prop, table_of, number_of}
-use Rattle.hf_store.specs.declared.item.RefList.{RefList}
-use Rattle.hf_store.specs.Valid.{IsGoodRef, IsGoodItem, IsGoodGroup, Valid}
+use Rattle.hf_store.specs.Table.{same_prop, props_of, with_prop, table_of}
+use Rattle.hf_store.specs.Valid.{IsGoodItem, IsGoodGroup, Valid}
 use Rattle.hf_store.proofs.BoxLengths.{le-box, le-box_len}
 use Rattle.hf_store.proofs.FieldLengths.{length-meta_front}
 use Rattle.hf_store.proofs.Lengths.{meta_body_len}
 use Rattle.hf_plan.specs.Lay.{IsWrittenRef, IsWrittenItem, IsWrittenGroup, IsWrittenExtent, Lay}
 use Rattle.hf_plan.proofs.Lengths.{file_len, length-LayBy}
-use Rattle.hf_read.specs.Denotes.{NeedsAreItems, PicksAreProps}
-use Rattle.hf_read.specs.Tables.{AreLocs, AreLinks, AreProps, AreGroups, infos_by_id, item_ids}
+use Rattle.hf_read.specs.Tables.{AreLocs, AreLinks, AreProps, AreGroups}
 use Rattle.hf_read.proofs.Filters.{from_flat}
 use Rattle.hf_canon.proofs.LaidOut.{HasBody, HasBodyIfAny}
 use Rattle.hf_canon.proofs.Boxes.{has_size, behind_few}
@@ -118,8 +115,8 @@ unfolding iinf_body
 entries_few wide infos few = behind_few _ (flat_map (infe_box wide) infos) few
 
 -- what stands in a body stands in a box with that body, whatever its type
-stands_there : (b : BoxAt) (body : List ℕ) (infos : List Info) → b.body ≡ body → IsIinf (record { kind = IINF; at = b.at; head = b.head; body = body }) infos
-    → IsIinf b infos
+stands_there : (b : BoxAt) (body : List ℕ) (infos : List Info) → b.body ≡ body
+    → IsIinf (record { kind = IINF; at = b.at; head = b.head; body = body }) infos → IsIinf b infos
 stands_there b body infos is stands = record {
   version = stands.version;
   flags = stands.flags;
@@ -172,7 +169,8 @@ all_with P earlier p all here =
     let pushed = all_push P earlier p all here in
     elim (list_any (same_prop p) earlier) as (λ b. AllByRecursion P (cond b earlier (earlier ++ p ∷ []))) [ true ↦ all | false ↦ pushed ]
 
-all_folded : (P : Prop → Type 0) (earlier ps : List Prop) → AllByRecursion P earlier → AllByRecursion P ps → AllByRecursion P (fold with_prop earlier ps)
+all_folded : (P : Prop → Type 0) (earlier ps : List Prop) → AllByRecursion P earlier → AllByRecursion P ps
+    → AllByRecursion P (fold with_prop earlier ps)
 all_folded P earlier [] all more = all
 all_folded P earlier (p ∷ ps) all more = all_folded P (with_prop earlier p) ps (all_with P earlier p all more.0) more.1
 
@@ -224,9 +222,9 @@ module _ (s : ItemStore) (w : ℕ) (F : List ℕ) (valid : Valid s) (lay : Lay s
       let count : length entries ≡ length (filter has s.items) = length-map (filter has s.items) entry in
       let fewer = length-some has s.items in
       let each : AllByRecursion IsFit (filter has s.items) = all_from IsFit (filter has s.items) (λ i h. (
-        let extent = in_all (IsWrittenExtent own w (length F) s.items) (filter has s.items) lay.numbers.extents i h in
-        let item = written_item i (in_filter has s.items i h) in
-        record { id = item.id; method = bit_small (in_idat i); offset = extent.offset; length = extent.length }
+      let extent = in_all (IsWrittenExtent own w (length F) s.items) (filter has s.items) lay.numbers.extents i h in
+      let item = written_item i (in_filter has s.items i h) in
+      record { id = item.id; method = bit_small (in_idat i); offset = extent.offset; length = extent.length }
       )) in
       let all = all_map (IsWrittenEntry wide w) entry (filter has s.items) each in
       let distinct = ap are_distinct (ids_of_entries (length F) s.items (filter has s.items)) ∙ distinct_some has in
@@ -236,9 +234,9 @@ module _ (s : ItemStore) (w : ℕ) (F : List ℕ) (valid : Valid s) (lay : Lay s
   pub links_are : (o : Option BoxAt) → HasBodyIfAny (iref_body wide) links o → AreLinks o links
   links_are =
       let each : AllByRecursion (IsWritableRef wide) links = all_from (IsWritableRef wide) links (each_box (IsWritableRef wide) s.items (λ i r among listed. (
-        let item = written_item i among in
-        let good = good_ref s valid i r among listed in
-        record { kind = good.kind; from = item.id; count = good.links; to = (in_all (IsWrittenRef wide) i.refs item.refs r listed).1 }
+      let item = written_item i among in
+      let good = good_ref s valid i r among listed in
+      record { kind = good.kind; from = item.id; count = good.links; to = (in_all (IsWrittenRef wide) i.refs item.refs r listed).1 }
       ))) in
       any_is (four "iref") (iref_body wide) AreLinks links refl (λ few b is. refs_stand b wide links is each few) (are_short s w F lay).iref
 
@@ -251,12 +249,12 @@ module _ (s : ItemStore) (w : ℕ) (F : List ℕ) (valid : Valid s) (lay : Lay s
       let count : length (assocs_of table s.items) ≡ length held = length-map held (assoc_of table) in
       let few = length-some has_props s.items in
       let each : AllByRecursion IsFit held = all_from IsFit held (λ i h. (
-        let item = written_item i (in_filter has_props s.items i h) in
-        record {
-          item = item.id;
-          count = omega (arith, item.props, length-map i.props (pick_of table));
-          picks = all_map (λ (p : Pick). p.index < cond long (2 ^ 15) (2 ^ 7)) (pick_of table) i.props item.numbers;
-        }
+      let item = written_item i (in_filter has_props s.items i h) in
+      record {
+        item = item.id;
+        count = omega (arith, item.props, length-map i.props (pick_of table));
+        picks = all_map (λ (p : Pick). p.index < cond long (2 ^ 15) (2 ^ 7)) (pick_of table) i.props item.numbers;
+      }
       )) in
       let stands = props_stand b wide (iprp_of s) is (record {
         kinds = kinds_are s valid;
@@ -271,5 +269,5 @@ module _ (s : ItemStore) (w : ℕ) (F : List ℕ) (valid : Valid s) (lay : Lay s
   unfolding grpl_body
   groups_are =
       let distinct = distinct_rises (group_ids s.groups) valid.groups_rise in
-      let each : length (grpl_body s.groups) < 256 ^ 8 → AllByRecursion IsWritableGroup s.groups = groups_written s.items s.groups valid.groups lay.numbers.groups in
+      let each = groups_written s.items s.groups valid.groups lay.numbers.groups in
       any_is (four "grpl") grpl_body AreGroups s.groups refl (λ few b is. groups_stand b s.groups is (each few) distinct) (are_short s w F lay).grpl
