@@ -48,6 +48,14 @@ pub no_fault : (file : List ℕ) (s : ItemStore) → reading file ≡ Ok s → f
 unfolding fault_of
 no_fault file s read = ap fault_in read
 
+pub fault_told : (file : List ℕ) (fault : ReadRefusal) → reading file ≡ Err fault → fault_of file ≡ Some fault
+unfolding fault_of
+fault_told file fault read = ap fault_in read
+
+pub left_valid : (edits : List Edit) (s after : ItemStore) → Valid s → stepped 1 s edits ≡ Ok after → Valid after
+unfolding Keeps
+left_valid edits s after valid steps = keeps_all edits 1 s after valid steps
+
 -- the canonical file of what is left is what the edits make of a file
 pub edits_make : (file : List ℕ) (edits : List Edit) (s after : ItemStore) → DenotesWithin file s → fault_of file ≡ None → stepped 1 s edits ≡ Ok after
     → (bytes : List ℕ) → Canon after bytes → IsEdited file edits bytes

@@ -74,7 +74,9 @@ pub fn edited<'a>(
         Err(OpenFault::Unfit(why)) => return Err(Stop::Unfit(why)),
         Err(OpenFault::NoMemory) => return Err(Stop::NoMemory),
     };
-    apply_all(&mut store, edits)?;
+    if let Err(why) = apply_all(&mut store, edits) {
+        return Err(why);
+    }
     store.valid();
     let plan = plan(alloc, &store)?;
     Ok((store, plan))

@@ -14,6 +14,3 @@ pub use editing::{Stop, edited};
 pub use making::make_canonical;
 pub use hf_text::{Command, EditWord, Outcome, WordsFault, line_of, read_words, say_rows, status};
 pub use top::run;
-
-#[cfg(test)]
-mod tests;
