@@ -52,17 +52,6 @@ leaves_as e p = record { front = p.front; is = ap (λ (l : List ℕ). p.front ++
 pub cut_rest : {X : Type 0} (n : ℕ) (xs : List X) → drop n xs ≡ take (length xs - n) (drop n xs)
 cut_rest n xs = sym (take_all (length xs - n) (drop n xs) (omega (arith, length-drop n xs)))
 
--- the text of one more element
-module _ {X : Type 0} (f : X → List ℕ) (xs : List X) (i : ℕ) (x : X) (is : x ≡ get_or xs i x) (less : i < length xs) where
-  each_here : flat_map f (drop i xs) ≡ f x ++ flat_map f (drop (i + 1) xs)
-  each_here = texts_here f xs i x less ∙ ap (λ (y : X). f y ++ flat_map f (drop (i + 1) xs)) (sym is)
-
-  pub each_less : {a b c : Outside} {h w m n : List ℕ} → Leaves a h w (flat_map f (drop i xs)) b m → Gives BySay b m (f x) (Ok tt) c n → Leaves a h w (flat_map f (drop (i + 1) xs)) c n
-  each_less p q = leaves_less (f x) (flat_map f (drop (i + 1) xs)) (flat_map f (drop i xs)) each_here p q
-
-  pub each_stop : {a b c : Outside} {h w m n : List ℕ} {r s : Wrote} → IsErr r → IsErr s → Leaves a h w (flat_map f (drop i xs)) b m → Gives BySay b m (f x) r c n → Gives BySay a h w s c n
-  each_stop ir is p q = leaves_stop (f x) (flat_map f (drop (i + 1) xs)) (flat_map f (drop i xs)) each_here ir is p q
-
 -- the first byte is given
 module _ (bytes : List ℕ) (d : ℕ) (some : 0 < length bytes) where
   pub first_less : {a b c : Outside} {h w m n : List ℕ} → Leaves a h w (flat_map byte_text bytes) b m → Gives BySay b m (byte_text (get_or bytes 0 d)) (Ok tt) c n → Leaves a h w (flat_map byte_text (drop 1 bytes)) c n

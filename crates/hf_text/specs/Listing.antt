@@ -54,7 +54,7 @@ ref_text r = (codes "  ref" ++ type_field r.kind) ++ id_fields r.to ++ codes "\n
 
 -- an item, then its properties, then its references
 unfoldable pub item_text : Item → List ℕ
-item_text i = entry_text i ++ flat_map prop_text i.props ++ flat_map ref_text i.refs
+item_text i = entry_text i ++ (flat_map prop_text i.props ++ flat_map ref_text i.refs)
 
 -- a group: its id, its type, and its entities
 unfoldable pub group_text : Group → List ℕ

@@ -13,12 +13,12 @@ ghost use Rattle.hf_text.specs.Listing.{brand_fields, brands_text, entry_text, e
 
 use crate::text::{byte_text as text_of_byte, plain_count, type_text};
 use arrayvec::ArrayString;
-use hf_base::{FourCc, four_at};
+use hf_base::{FourCc, Ids, four_at};
 use hf_desk::{Desk, Page, Say, WriteFault};
 use hf_head::Brands;
 use hf_links::Group;
 use hf_prop::Held;
-use hf_store::{Item, RefList, Store};
+use hf_store::{Item, Props, RefList, Refs, Store};
 use itoa::Buffer;
 
 /// No words of fixed form have more bytes.
@@ -68,11 +68,11 @@ fn give_kinds<D: Desk>(kinds: &[u8], page: &mut Page<Say>, desk: &mut D) -> Resu
 }
 
 /// Gives ids, each after a space.
-fn give_ids<D: Desk>(ids: &[u32], page: &mut Page<Say>, desk: &mut D) -> Result<(), WriteFault>
+fn give_ids<D: Desk>(ids: &Ids, page: &mut Page<Say>, desk: &mut D) -> Result<(), WriteFault>
     ensures { Gives BySay (D.outside desk.old) page.old (id_fields ids.now) result (D.outside desk.new) page.new }
 {
-    for id in ids {
-        give_number(u64::from(*id), page, desk)?;
+    for i in 0..ids.len() {
+        give_number(u64::from(ids.get(i)), page, desk)?;
     }
     Ok(())
 }
@@ -212,14 +212,14 @@ fn line_of_prop(held: &Held<'_>) -> ArrayString<WORDS>
 
 /// Gives the lines of properties.
 fn give_props<D: Desk>(
-    props: &[Held<'_>],
+    props: &Props<'_>,
     page: &mut Page<Say>,
     desk: &mut D,
 ) -> Result<(), WriteFault>
     ensures { Gives BySay (D.outside desk.old) page.old (flat_map prop_text props.now) result (D.outside desk.new) page.new }
 {
-    for held in props {
-        give_text(&line_of_prop(held), page, desk)?;
+    for i in 0..props.len() {
+        give_text(&line_of_prop(props.get(i)), page, desk)?;
     }
     Ok(())
 }
@@ -240,22 +240,31 @@ fn give_ref<D: Desk>(list: &RefList, page: &mut Page<Say>, desk: &mut D) -> Resu
 {
     let words = words_of_refs(list.kind);
     give_text(&words, page, desk)?;
-    give_ids(list.to.as_slice(), page, desk)?;
+    give_ids(&list.to, page, desk)?;
     page.give(b"\n", desk)
 }
 
 /// Gives the lines of reference lists.
-fn give_refs<D: Desk>(
-    refs: &[RefList],
+fn give_refs<D: Desk>(refs: &Refs, page: &mut Page<Say>, desk: &mut D) -> Result<(), WriteFault>
+    ensures { Gives BySay (D.outside desk.old) page.old (flat_map ref_text refs.now) result (D.outside desk.new) page.new }
+{
+    for i in 0..refs.len() {
+        give_ref(refs.get(i), page, desk)?;
+    }
+    Ok(())
+}
+
+/// Gives the lines of an item's properties, and behind them those of its references.
+#[tactic(auto, using(hf_desk::proofs::Paging::gives_then, hf_desk::proofs::Paging::gives_stops))]
+fn give_lists<D: Desk>(
+    item: &Item<'_>,
     page: &mut Page<Say>,
     desk: &mut D,
 ) -> Result<(), WriteFault>
-    ensures { Gives BySay (D.outside desk.old) page.old (flat_map ref_text refs.now) result (D.outside desk.new) page.new }
+    ensures { Gives BySay (D.outside desk.old) page.old (flat_map prop_text item.now.props ++ flat_map ref_text item.now.refs) result (D.outside desk.new) page.new }
 {
-    for list in refs {
-        give_ref(list, page, desk)?;
-    }
-    Ok(())
+    give_props(&item.props, page, desk)?;
+    give_refs(&item.refs, page, desk)
 }
 
 /// Gives the lines of an item, its properties and its references.
@@ -263,8 +272,7 @@ fn give_item<D: Desk>(item: &Item<'_>, page: &mut Page<Say>, desk: &mut D) -> Re
     ensures { Gives BySay (D.outside desk.old) page.old (item_text (item_of item.now)) result (D.outside desk.new) page.new }
 {
     give_entry(item, page, desk)?;
-    give_props(item.props.as_slice(), page, desk)?;
-    give_refs(item.refs.as_slice(), page, desk)
+    give_lists(item, page, desk)
 }
 
 /// Gives the lines of all items.
@@ -303,7 +311,7 @@ fn give_group<D: Desk>(
 {
     let words = words_of_group(group.id, group.kind);
     give_text(&words, page, desk)?;
-    give_ids(group.entities.as_slice(), page, desk)?;
+    give_ids(&group.entities, page, desk)?;
     page.give(b"\n", desk)
 }
 

@@ -10,8 +10,8 @@ returns-in_err-give_text g c = gives_as (ap (λ l. l ++ id_fields c.args.list.no
 
 pub returns-in_err-give_ids : goal.returns-in_err-give_ids
 unfolding ref_text
-returns-in_err-give_ids g c = gives_as (ap (λ l. l ++ id_fields c.args.list.now.to ++ codes "\n") c.words_of_refs-words.ensures) (gives_stops _ refl c.from_residual-in_err-give_ids.ensures.0 (gives_then c.in_ok-give_text.ensures (rw c.as_slice.ensures at c.in_err-give_ids.ensures)))
+returns-in_err-give_ids g c = gives_as (ap (λ l. l ++ id_fields c.args.list.now.to ++ codes "\n") c.words_of_refs-words.ensures) (gives_stops _ refl c.from_residual-in_err-give_ids.ensures.0 (gives_then c.in_ok-give_text.ensures c.in_err-give_ids.ensures))
 
 pub returns : goal.returns
 unfolding ref_text
-returns g c = gives_as (ap (λ l. l ++ id_fields c.args.list.now.to ++ codes "\n") c.words_of_refs-words.ensures) (gives_then (gives_then c.in_ok-give_text.ensures (rw c.as_slice.ensures at c.in_ok-give_ids.ensures)) c.give.ensures.gives)
+returns g c = gives_as (ap (λ l. l ++ id_fields c.args.list.now.to ++ codes "\n") c.words_of_refs-words.ensures) (gives_then (gives_then c.in_ok-give_text.ensures c.in_ok-give_ids.ensures) c.give.ensures.gives)
