@@ -1,14 +1,19 @@
 -- The least id that something bad stands at, found in one pass over what may be bad.
-use Rattle.std.proofs.Common.{◌≡◌, ℕ, ◌+◌, ◌≤◌, ◌<◌, min, Bool, true, false, ◌&&◌, ◌||◌, eqb, List, [], ◌∷◌, length, take, get_or, find, Option, Some, None, refl, sym, ap, subst, ◌∙◌, arith, inl, inr}
+use Rattle.std.proofs.Common.{◌≡◌, ℕ, ◌+◌, ◌≤◌, ◌<◌, min, Bool, true, false, not, ◌&&◌, ◌||◌, eqb, List, [], ◌∷◌, length, take, get_or, find, Option, Some, None, refl, sym, ap, subst, ◌∙◌, arith, inl, inr}
 use Rattle.std.specs.List.{list_any}
+use Rattle.std.specs.Prelude.{nat_lt}
 use Rattle.std.specs.Option.{unwrap_or}
 use Rattle.std.proofs.lemmas.Bool.{cases_Bool, and_parts, eqb-true, eq-eqb}
 use Rattle.std.proofs.lemmas.List.Folds.{list_any-append, list_any_more}
 use Rattle.hf_base.specs.Entries.{has_id}
 use Rattle.hf_base.specs.Members.{IsIn, RisesFrom, Rises}
+use Rattle.hf_base.specs.declared.loc.RefBox.{RefBox}
 use Rattle.hf_order.proofs.Members.{has_in, in_has}
 use Rattle.hf_prop.specs.declared.assoc.Assoc.{Assoc}
 use Rattle.hf_prop.specs.declared.assoc.Pick.{Pick}
+use Rattle.hf_prop.specs.declared.iprp.Iprp.{Iprp}
+use Rattle.hf_store.specs.Changes.{is_need}
+use Rattle.hf_read.specs.Faults.{is_past}
 use Rattle.hf_read.specs.Kept.{picks_of}
 
 -- ---- the first of some ids
@@ -21,7 +26,7 @@ find_same p q (id ∷ ids) same = elim (cases_Bool (q id)) [
 ]
 
 -- one id more is told where it passes
-or_there : (ℕ → Bool) → ℕ → ℕ → Bool
+abbrev or_there : (ℕ → Bool) → ℕ → ℕ → Bool
 or_there p k id = p id || (eqb k id && true)
 
 above : (low : ℕ) (ids : List ℕ) (k : ℕ) → RisesFrom ◌<◌ low ids → IsIn k ids → low < k
@@ -86,15 +91,20 @@ pub none_yet : (ids : List ℕ) → find (λ (id : ℕ). false) ids ≡ None
 none_yet [] = refl
 none_yet (id ∷ ids) = none_yet ids
 
-pub least_more : {A : Type 0} (key : A → ℕ) (bad : A → Bool) (ids : List ℕ) (xs : List A) (i : ℕ) (x : A) → Rises ◌<◌ ids → i < length xs → x ≡ get_or xs i x
-    → has_id (key x) ids && bad x ≡ true → Some (min (unwrap_or (find (stands key bad (take i xs)) ids) (key x)) (key x)) ≡ find (stands key bad (take (i + 1) xs)) ids
-least_more {A = A} key bad ids xs i x up less here both =
+-- one more, at which something bad stands: m is the least id before it, or its own id where there was none
+pub least_more : {A : Type 0} (key : A → ℕ) (bad : A → Bool) (ids : List ℕ) (xs : List A) (i : ℕ) (x : A) (o : Option ℕ) (m n : ℕ)
+    → Rises ◌<◌ ids → i < length xs → x ≡ get_or xs i x → has_id (key x) ids && bad x ≡ true
+    → o ≡ find (stands key bad (take i xs)) ids → m ≡ unwrap_or o (key x) → n ≡ min m (key x) → Some n ≡ find (stands key bad (take (i + 1) xs)) ids
+least_more {A = A} key bad ids xs i x o m n up less here both before first lesser =
     let p = and_parts (has_id (key x) ids) (bad x) both in
     let step : (id : ℕ) → IsIn id ids → stands key bad (take (i + 1) xs) id ≡ or_there (stands key bad (take i xs)) (key x) id = λ id h.
       list_any_more (λ (y : A). eqb (key y) id && bad y) xs i x less
       ∙ ap (λ (y : A). stands key bad (take i xs) id || (eqb (key y) id && bad y)) (sym here)
       ∙ ap (λ (b : Bool). stands key bad (take i xs) id || (eqb (key x) id && b)) p.1 in
-    sym (find_same (stands key bad (take (i + 1) xs)) (or_there (stands key bad (take i xs)) (key x)) ids step
+    let told : n ≡ min (unwrap_or (find (stands key bad (take i xs)) ids) (key x)) (key x) =
+      lesser ∙ ap (λ (k : ℕ). min k (key x)) (first ∙ ap (λ (l : Option ℕ). unwrap_or l (key x)) before) in
+    ap (λ (k : ℕ). Some k) told
+    ∙ sym (find_same (stands key bad (take (i + 1) xs)) (or_there (stands key bad (take i xs)) (key x)) ids step
     ∙ first_more (stands key bad (take i xs)) ids (key x) up (in_has (key x) ids p.0))
 
 or_false : (b : Bool) → b || false ≡ b
@@ -102,27 +112,36 @@ or_false true = refl
 or_false false = refl
 
 not_both : (ids : List ℕ) (k id : ℕ) (b : Bool) → has_id k ids && b ≡ false → IsIn id ids → eqb k id && b ≡ false
-not_both ids k id true no h = elim (cases_Bool (eqb k id)) [
+not_both ids k id true e h = elim (cases_Bool (eqb k id)) [
   | inl t ↦ absurd (
       let there : has_id k ids ≡ true = has_in k ids (subst (λ (n : ℕ). IsIn n ids) (sym (eqb-true k id t)) h) in
       let yes : has_id k ids && true ≡ true = rw there refl in
-      let clash : true ≡ false = sym yes ∙ no in
+      let clash : true ≡ false = sym yes ∙ e in
       cc)
   | inr f ↦ rw f refl
 ]
-not_both ids k id false no h = elim (cases_Bool (eqb k id)) [ inl t ↦ rw t refl | inr f ↦ rw f refl ]
+not_both ids k id false e h = elim (cases_Bool (eqb k id)) [ inl t ↦ rw t refl | inr f ↦ rw f refl ]
 
+-- one more, at which nothing bad stands
 pub least_same : {A : Type 0} (key : A → ℕ) (bad : A → Bool) (ids : List ℕ) (xs : List A) (i : ℕ) (x : A) → i < length xs → x ≡ get_or xs i x
     → has_id (key x) ids && bad x ≡ false → find (stands key bad (take i xs)) ids ≡ find (stands key bad (take (i + 1) xs)) ids
-least_same {A = A} key bad ids xs i x less here no =
+least_same {A = A} key bad ids xs i x less here fine =
     let step : (id : ℕ) → IsIn id ids → stands key bad (take (i + 1) xs) id ≡ stands key bad (take i xs) id = λ id h.
       list_any_more (λ (y : A). eqb (key y) id && bad y) xs i x less
       ∙ ap (λ (y : A). stands key bad (take i xs) id || (eqb (key y) id && bad y)) (sym here)
-      ∙ ap (λ (b : Bool). stands key bad (take i xs) id || b) (not_both ids (key x) id (bad x) no h)
+      ∙ ap (λ (b : Bool). stands key bad (take i xs) id || b) (not_both ids (key x) id (bad x) fine h)
       ∙ or_false (stands key bad (take i xs) id) in
     sym (find_same (stands key bad (take (i + 1) xs)) (stands key bad (take i xs)) ids step)
 
--- ---- associations, each entry of its own
+-- ---- what is bad
+
+-- references that are needed, and one of them names no item
+abbrev pub dangles : List ℕ → RefBox → Bool
+dangles ids r = is_need r.kind && list_any (λ to. not (has_id to ids)) r.to
+
+-- an association of the entry is past the last of so many properties
+abbrev pub passes : ℕ → Assoc → Bool
+passes props a = list_any (λ (p : Pick). nat_lt props p.index) a.picks
 
 pub picked : (test : Pick → Bool) (id : ℕ) (assocs : List Assoc) → list_any test (picks_of id assocs) ≡ stands (λ (a : Assoc). a.item) (λ (a : Assoc). list_any test a.picks) assocs id
 picked test id [] = refl
@@ -130,3 +149,6 @@ picked test id (a ∷ assocs) = elim (cases_Bool (eqb a.item id)) [
   | inl t ↦ rw t (list_any-append test a.picks (picks_of id assocs) ∙ ap (λ (b : Bool). list_any test a.picks || b) (picked test id assocs))
   | inr f ↦ rw f (picked test id assocs)
 ]
+
+pub past_is : (ids : List ℕ) (v : Iprp) → find (stands (λ (a : Assoc). a.item) (passes (length v.props)) v.assocs) ids ≡ find (λ id. list_any (is_past v.props) (picks_of id v.assocs)) ids
+past_is ids v = find_same (stands (λ (a : Assoc). a.item) (passes (length v.props)) v.assocs) (λ id. list_any (is_past v.props) (picks_of id v.assocs)) ids (λ id h. sym (picked (is_past v.props) id v.assocs))

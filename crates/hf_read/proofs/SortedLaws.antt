@@ -6,6 +6,7 @@ use Rattle.std.specs.List.Sorted.{IsPermutation, IsNonDecreasingBy}
 use Rattle.std.proofs.lemmas.Bool.{and_parts, or_parts, eqb-false}
 use Rattle.std.proofs.lemmas.List.Sorted.{IsPermutation-sym, IsPermutation-map}
 use Rattle.std.proofs.lemmas.Map.Keys.{IsDistinct-IsPermutation, IsDistinct-cons, IsDistinct-head, IsDistinct-tail}
+use Rattle.std.proofs.lemmas.Simd.{map-map}
 use Rattle.std.proofs.lemmas.Map.Made.{IsDistinct-from_count}
 use Rattle.hf_base.specs.Entries.{has_id, are_distinct}
 use Rattle.hf_base.specs.Members.{IsIn, RisesFrom, Rises}
@@ -18,7 +19,7 @@ use Rattle.hf_read.proofs.RisingLaws.{from_rising, in_rising, rising_rises}
 
 above : {A : Type 0} (key : A → ℕ) (low : ℕ) (xs : List A) (z : A) → RisesFrom ◌<◌ low (map key xs) → IsIn z xs → low < key z
 above key low [] z up h = absurd h
-above key low (x ∷ xs) z up (inl e) = subst (λ (a : A). low < key a) e up.0
+above {A = A} key low (x ∷ xs) z up (inl e) = subst (λ (a : A). low < key a) e up.0
 above key low (x ∷ xs) z up (inr h) = let next = above key (key x) xs z up.1 h in let first : low < key x = up.0 in omega arith
 
 tail_rises : {A : Type 0} (key : A → ℕ) (x : A) (xs : List A) → Rises ◌<◌ (map key (x ∷ xs)) → Rises ◌<◌ (map key xs)
@@ -76,11 +77,25 @@ distinct_of (x ∷ xs) h =
   where
     none_of : (x : ℕ) (ys : List ℕ) → has_id x ys ≡ false → AllByRecursion (λ (y : ℕ). eqb x y ≡ false) ys
     none_of x [] h = tt
-    none_of x (y ∷ ys) h = let p = or_parts (eqb y x) (has_id x ys) h in (eqb-flip y x ∙ p.0, none_of x ys p.1)
+    none_of x (y ∷ ys) h = let p = or_parts (eqb y x) (has_id x ys) h in (eqb-flip x y ∙ p.0, none_of x ys p.1)
 
-pub sorted_is : {A : Type 0} (key : A → ℕ) (xs ys : List A) → are_distinct (map key xs) ≡ true → IsPermutation xs ys → IsNonDecreasingBy key ys → ys ≡ by_rising key xs
-sorted_is key xs ys distinct moved up =
-    let apart = IsDistinct-IsPermutation eqb eqb-flip (map key xs) (map key ys) (IsPermutation-map key xs ys moved) (distinct_of (map key xs) distinct) in
-    one_rising key ys (by_rising key xs) (rise key ys up apart) (rising_rises key xs distinct)
+rises_is : {A : Type 0} (key : A → ℕ) (xs ys : List A) → are_distinct (map key xs) ≡ true → IsPermutation xs ys → Rises ◌<◌ (map key ys) → ys ≡ by_rising key xs
+rises_is key xs ys distinct moved up =
+    one_rising key ys (by_rising key xs) up (rising_rises key xs distinct)
     (λ z h. in_rising key xs z (in_permutation ys xs (IsPermutation-sym xs ys moved) z h))
     (λ z h. in_permutation xs ys moved z (from_rising key xs z h))
+
+still_distinct : {A : Type 0} (key : A → ℕ) (xs ys : List A) → are_distinct (map key xs) ≡ true → IsPermutation xs ys → IsDistinct eqb (map key ys)
+still_distinct key xs ys distinct moved = IsDistinct-IsPermutation eqb eqb-flip (map key xs) (map key ys) (IsPermutation-map key xs ys moved) (distinct_of (map key xs) distinct)
+
+pub sorted_is : {A : Type 0} (key : A → ℕ) (xs ys : List A) → are_distinct (map key xs) ≡ true → IsPermutation xs ys → IsNonDecreasingBy key ys → ys ≡ by_rising key xs
+sorted_is key xs ys distinct moved up = rises_is key xs ys distinct moved (rise key ys up (still_distinct key xs ys distinct moved))
+
+-- the same of what the elements stand for
+pub sorted_seen : {X A : Type 0} (view : X → A) (key : A → ℕ) (xs ys : List X) → are_distinct (map key (map view xs)) ≡ true → IsPermutation xs ys → IsNonDecreasingBy (λ (x : X). key (view x)) ys
+    → map view ys ≡ by_rising key (map view xs)
+sorted_seen {X = X} view key xs ys distinct moved up =
+    let key' : X → ℕ = λ x. key (view x) in
+    let distinct' : are_distinct (map key' xs) ≡ true = sym (ap are_distinct (map-map key view xs)) ∙ distinct in
+    let rises : Rises ◌<◌ (map key' ys) = rise key' ys up (still_distinct key' xs ys distinct' moved) in
+    rises_is key (map view xs) (map view ys) distinct (IsPermutation-map view xs ys moved) (subst (λ (ids : List ℕ). Rises ◌<◌ ids) (sym (map-map key view ys)) rises)

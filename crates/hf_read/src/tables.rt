@@ -27,7 +27,7 @@ use std::alloc::Global;
 /// The entries by rising id.
 fn by_id<'a>(infos: Vec<Info<'a>>) -> Result<Vec<Info<'a>>, NoMemory>
     requires { IsTrue (are_distinct (info_ids (infos_of infos.items))) }
-    ensures { IfOk result (λ sorted. infos_of sorted.items ≡ infos_by_id (infos_of infos.items)) }
+    ensures { IfOk result (λ sorted. infos_of sorted.items ≡ infos_by_id (infos_of infos.entry.items)) }
 {
     let mut sorted = infos;
     sorted.sort_by_key(|info| info.id)?;
