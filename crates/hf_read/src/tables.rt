@@ -48,7 +48,7 @@ fn ids_of(alloc: Global, infos: &[Info<'_>]) -> Result<Vec<u32>, NoMemory>
 /// The entries of an `iloc`; where there is none, there are none.
 fn locs_of(alloc: Global, iloc: Option<BoxView<'_>>) -> Result<Vec<Loc>, OpenFault>
     requires { IfSome iloc (IsBoxOf kinds.ILOC) }
-    ensures exact { Gives (λ locs. locs.items) result (locs_in (option_map box_of iloc)) }
+    ensures exact { Gives (λ locs. locs.items) result (locs_in (option_map box_of iloc.entry)) }
     ensures distinct { IfOk result (λ locs. HaveDistinctIds locs.items) }
 {
     match iloc {
@@ -60,7 +60,7 @@ fn locs_of(alloc: Global, iloc: Option<BoxView<'_>>) -> Result<Vec<Loc>, OpenFau
 /// The references of an `iref`; where there is none, there are none.
 fn links_of(alloc: Global, iref: Option<BoxView<'_>>) -> Result<Vec<RefBox>, OpenFault>
     requires { IfSome iref (IsBoxOf kinds.IREF) }
-    ensures { Gives (λ links. links.items) result (links_in (option_map box_of iref)) }
+    ensures { Gives (λ links. links.items) result (links_in (option_map box_of iref.entry)) }
 {
     match iref {
         Some(view) => read_iref(alloc, &view),
@@ -71,7 +71,7 @@ fn links_of(alloc: Global, iref: Option<BoxView<'_>>) -> Result<Vec<RefBox>, Ope
 /// The properties and associations of an `iprp`; where there is none, there are none.
 fn iprp_of<'a>(alloc: Global, iprp: Option<BoxView<'a>>) -> Result<Iprp<'a>, OpenFault>
     requires { IfSome iprp (IsBoxOf kinds.IPRP) }
-    ensures exact { Gives (λ v. v) result (iprp_in (option_map box_of iprp)) }
+    ensures exact { Gives (λ v. v) result (iprp_in (option_map box_of iprp.entry)) }
     ensures distinct { IfOk result (λ v. IsTrue (are_distinct (assoc_ids v.assocs))) }
 {
     match iprp {
@@ -86,7 +86,7 @@ fn iprp_of<'a>(alloc: Global, iprp: Option<BoxView<'a>>) -> Result<Iprp<'a>, Ope
 /// The groups of a `grpl`; where there is none, there are none.
 fn groups_in_box<'a>(alloc: Global, grpl: Option<BoxView<'a>>) -> Result<Vec<Group<'a>>, OpenFault>
     requires { IfSome grpl (IsBoxOf kinds.GRPL) }
-    ensures exact { Gives (λ groups. groups_of groups.items) result (groups_in (option_map box_of grpl)) }
+    ensures exact { Gives (λ groups. groups_of groups.items) result (groups_in (option_map box_of grpl.entry)) }
     ensures distinct { IfOk result (λ groups. IsTrue (are_distinct (group_ids (groups_of groups.items)))) }
 {
     match grpl {
