@@ -98,11 +98,11 @@ pub least_more : {A : Type 0} (key : A → ℕ) (bad : A → Bool) (ids : List �
 least_more {A = A} key bad ids xs i x o m n up less here both before first lesser =
     let p = and_parts (has_id (key x) ids) (bad x) both in
     let step : (id : ℕ) → IsIn id ids → stands key bad (take (i + 1) xs) id ≡ or_there (stands key bad (take i xs)) (key x) id = λ id h.
-      list_any_more (λ (y : A). eqb (key y) id && bad y) xs i x less
-      ∙ ap (λ (y : A). stands key bad (take i xs) id || (eqb (key y) id && bad y)) (sym here)
-      ∙ ap (λ (b : Bool). stands key bad (take i xs) id || (eqb (key x) id && b)) p.1 in
+    list_any_more (λ (y : A). eqb (key y) id && bad y) xs i x less
+    ∙ ap (λ (y : A). stands key bad (take i xs) id || (eqb (key y) id && bad y)) (sym here)
+    ∙ ap (λ (b : Bool). stands key bad (take i xs) id || (eqb (key x) id && b)) p.1 in
     let told : n ≡ min (unwrap_or (find (stands key bad (take i xs)) ids) (key x)) (key x) =
-      lesser ∙ ap (λ (k : ℕ). min k (key x)) (first ∙ ap (λ (l : Option ℕ). unwrap_or l (key x)) before) in
+    lesser ∙ ap (λ (k : ℕ). min k (key x)) (first ∙ ap (λ (l : Option ℕ). unwrap_or l (key x)) before) in
     ap (λ (k : ℕ). Some k) told
     ∙ sym (find_same (stands key bad (take (i + 1) xs)) (or_there (stands key bad (take i xs)) (key x)) ids step
     ∙ first_more (stands key bad (take i xs)) ids (key x) up (in_has (key x) ids p.0))
@@ -127,10 +127,10 @@ pub least_same : {A : Type 0} (key : A → ℕ) (bad : A → Bool) (ids : List �
     → has_id (key x) ids && bad x ≡ false → find (stands key bad (take i xs)) ids ≡ find (stands key bad (take (i + 1) xs)) ids
 least_same {A = A} key bad ids xs i x less here fine =
     let step : (id : ℕ) → IsIn id ids → stands key bad (take (i + 1) xs) id ≡ stands key bad (take i xs) id = λ id h.
-      list_any_more (λ (y : A). eqb (key y) id && bad y) xs i x less
-      ∙ ap (λ (y : A). stands key bad (take i xs) id || (eqb (key y) id && bad y)) (sym here)
-      ∙ ap (λ (b : Bool). stands key bad (take i xs) id || b) (not_both ids (key x) id (bad x) fine h)
-      ∙ or_false (stands key bad (take i xs) id) in
+    list_any_more (λ (y : A). eqb (key y) id && bad y) xs i x less
+    ∙ ap (λ (y : A). stands key bad (take i xs) id || (eqb (key y) id && bad y)) (sym here)
+    ∙ ap (λ (b : Bool). stands key bad (take i xs) id || b) (not_both ids (key x) id (bad x) fine h)
+    ∙ or_false (stands key bad (take i xs) id) in
     sym (find_same (stands key bad (take (i + 1) xs)) (stands key bad (take i xs)) ids step)
 
 -- ---- what is bad

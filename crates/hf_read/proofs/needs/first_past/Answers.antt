@@ -1,4 +1,4 @@
-use Rattle.std.proofs.Common.{ℕ, List, find, take, sym, ap, ◌∙◌}
+use Rattle.std.proofs.Common.{ℕ, List, find, sym, ap, ◌∙◌}
 use Rattle.std.proofs.lemmas.List.{take_all}
 use Rattle.hf_prop.specs.declared.assoc.Assoc.{Assoc}
 use Rattle.hf_read.proofs.LeastLaws.{stands, passes, none_yet, least_more, least_same, past_is}

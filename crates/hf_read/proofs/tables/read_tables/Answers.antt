@@ -1,13 +1,10 @@
-use Rattle.std.proofs.Common.{◌≡◌, ℕ, ◌<◌, true, List, map, Ok, refl, sym, ap, subst, ◌∙◌}
+use Rattle.std.proofs.Common.{◌≡◌, ℕ, ◌<◌, true, List, Ok, refl, sym, ap, subst, ◌∙◌}
 use Rattle.hf_base.specs.Entries.{are_distinct}
 use Rattle.hf_base.specs.Members.{Rises}
-use Rattle.hf_base.specs.declared.loc.Loc.{Loc}
-use Rattle.hf_base.specs.declared.loc.RefBox.{RefBox}
 use Rattle.hf_info.specs.Iinf.{iinf_at, info_ids}
 use Rattle.hf_info.specs.Infe.{Info, infos_of}
 use Rattle.hf_info.specs.declared.infe.Info.{Info as View}
-use Rattle.hf_links.specs.Grpl.{Group, groups_of}
-use Rattle.hf_prop.specs.declared.iprp.Iprp.{Iprp}
+use Rattle.hf_links.specs.Grpl.{groups_of}
 use Rattle.hf_read.specs.Faults.{no_primary_fault, dangling_need_fault, bad_property_fault}
 use Rattle.hf_read.specs.Reading.{tables_at}
 use Rattle.hf_read.specs.Seen.{parts_seen}
@@ -52,7 +49,7 @@ returns-clause-exact c =
     let ids : c.in_ok-ids.ids.items ≡ item_ids infos = are infos c.in_ok-infos.ensures c.deref.ensures.value c.in_ok-ids.ensures refl in
     let there : no_primary_fault (item_ids infos) primary ≡ Ok tt = ap (λ (l : List ℕ). no_primary_fault l primary) (sym (c.deref-2.ensures.value ∙ ids)) ∙ c.in_ok-check_primary.ensures in
     let needs : dangling_need_fault (item_ids infos) t.links ≡ Ok tt =
-      ap (λ (l : List ℕ). dangling_need_fault l t.links) (sym (c.deref-3.ensures.value ∙ ids)) ∙ ap (dangling_need_fault c.deref-3.result.now) (sym c.deref-4.ensures.value) ∙ c.in_ok-check_needs.ensures in
+    ap (λ (l : List ℕ). dangling_need_fault l t.links) (sym (c.deref-3.ensures.value ∙ ids)) ∙ ap (dangling_need_fault c.deref-3.result.now) (sym c.deref-4.ensures.value) ∙ c.in_ok-check_needs.ensures in
     let picks : bad_property_fault (item_ids infos) t.iprp ≡ Ok tt = ap (λ (l : List ℕ). bad_property_fault l t.iprp) (sym (c.deref-5.ensures.value ∙ ids)) ∙ c.in_ok-check_picks.ensures in
     let read = made primary (parts_seen c.args.parts.now) t c.in_ok-read_iinf.ensures.exact there c.in_ok-locs.ensures.exact c.in_ok-links.ensures needs c.in_ok-iprp.ensures.exact picks c.in_ok-groups.ensures.exact in
     (t, read, record { infos = c.in_ok-infos.ensures; ids = ids; locs = refl; links = refl; iprp = refl; groups = refl })
