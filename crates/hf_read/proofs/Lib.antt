@@ -2,6 +2,7 @@ pub mod Bytes
 pub mod DenotesLaws
 pub mod Filters
 pub mod FirstFaults
+pub mod GatheredLaws
 pub mod ItemLaws
 pub mod KeptGroups
 pub mod KeptProps
@@ -13,6 +14,7 @@ pub mod ReadLaws
 pub mod ReadingLaws
 pub mod RecordParts
 pub mod RisingLaws
+pub mod RunLaws
 pub mod SearchLaws
 pub mod StoreFaults
 pub mod StoreLaws

@@ -6,6 +6,7 @@ pub mod limits;
 pub mod meta;
 mod opening;
 pub mod order;
+mod references;
 pub mod refused;
 mod search;
 pub mod worked;

@@ -1,0 +1,129 @@
+//! The references that a store keeps of the boxes of `iref`.
+
+ghost use Rattle.std.specs.Prelude.{◌≡◌, ◌<◌, ◌≤◌, ◌++◌, ℕ, List, true, map, filter, flat_map, length, IfOk, OnOk, IfNone, IfSome};
+ghost use Rattle.std.specs.List.{AllByRecursion};
+ghost use Rattle.hf_base.specs.Entries.{has_id};
+ghost use Rattle.hf_base.specs.Members.{Rises};
+ghost use Rattle.hf_base.specs.declared.four.FourCc.{FourCc as Kind};
+ghost use Rattle.hf_base.specs.declared.loc.RefBox.{RefBox as Stated};
+ghost use Rattle.hf_read.specs.Kept.{kept_refs as kept};
+ghost use Rattle.hf_read.specs.Gathered.{AreInOrder, BeginsWith, BeginsElsewhere, is_later, is_of, seen};
+
+use crate::search::is_item;
+use hf_base::kinds::ILOC;
+use hf_base::{FourCc, Ids, NoMemory, RefBox};
+use hf_store::{RefList, Refs};
+use std::alloc::Global;
+
+/// The boxes by rising items and types; those of one item and type stay in file order.
+fn in_order<'a>(alloc: Global, links: &'a [RefBox]) -> Result<Vec<&'a RefBox>, NoMemory>
+    ensures sorted { IfOk result (λ boxes. AreInOrder boxes.items) }
+    ensures same { (from : ℕ) (kind : Kind) → IfOk result (λ boxes. filter (is_of from kind) (seen boxes.items) ≡ filter (is_of from kind) links.now) }
+{
+    let mut boxes: Vec<&'a RefBox> = links.iter().collect(alloc)?;
+    boxes.sort_by_key(|link| (link.from, link.kind))?;
+    Ok(boxes)
+}
+
+/// The boxes from the first one on that is not of an earlier item.
+fn from_item<'a, 'b>(boxes: &'a [&'b RefBox], from: u32) -> &'a [&'b RefBox]
+    requires { AreInOrder boxes.now }
+    ensures sorted { AreInOrder result.now }
+    ensures reached { AllByRecursion (λ b. from ≤ b.from) (seen result.now) }
+    ensures kept { (ids : List ℕ) → kept ids (seen result.now) from ≡ kept ids (seen boxes.now) from }
+{
+    &boxes[boxes.partition_point(|link| link.from < from)..]
+}
+
+/// The type of the first box, where that is one of the item.
+fn first_kind(boxes: &[&RefBox], from: u32) -> Option<FourCc>
+    ensures found { IfSome result (λ kind. BeginsWith from kind (seen boxes.now)) }
+    ensures none { IfNone result (BeginsElsewhere from (seen boxes.now)) }
+{
+    let first = boxes.first()?;
+    if first.from != from {
+        return None;
+    }
+    Some(first.kind)
+}
+
+/// Splits boxes in order behind those of the first one's item and type.
+fn split_run<'a, 'b>(
+    boxes: &'a [&'b RefBox],
+    from: u32,
+    kind: FourCc,
+) -> (&'a [&'b RefBox], &'a [&'b RefBox])
+    requires sorted { AreInOrder boxes.now }
+    requires first { BeginsWith from kind (seen boxes.now) }
+    ensures whole { seen boxes.now ≡ seen result.0.now ++ seen result.1.now }
+    ensures some { length result.1.now < length boxes.now }
+    ensures run { AllByRecursion (λ b. is_of from kind b ≡ true) (seen result.0.now) }
+    ensures later { AllByRecursion (λ b. is_later from kind b ≡ true) (seen result.1.now) }
+    ensures rest { AreInOrder result.1.now }
+{
+    boxes.split_at(boxes.partition_point(|link| link.from == from && link.kind == kind))
+}
+
+/// Adds those of these ids that are items.
+fn add_items(to: &mut Ids, ids: &[u32], more: &Ids) -> Result<(), NoMemory>
+    requires { Rises ◌<◌ ids.now }
+    ensures { OnOk result (to.new ≡ to.old ++ filter (λ id. has_id id ids.now) more.now) }
+{
+    for id in more.as_slice() {
+        if is_item(ids, *id) {
+            to.push(*id)?;
+        }
+    }
+    Ok(())
+}
+
+/// The items that these boxes lead to, in their order.
+fn targets(alloc: Global, ids: &[u32], boxes: &[&RefBox]) -> Result<Ids, NoMemory>
+    requires { Rises ◌<◌ ids.now }
+    ensures { IfOk result (λ to. to ≡ flat_map (λ (b : Stated). filter (λ id. has_id id ids.now) b.to) (seen boxes.now)) }
+{
+    let mut to = Ids::new(alloc);
+    for link in boxes {
+        add_items(&mut to, ids, &link.to)?;
+    }
+    Ok(to)
+}
+
+/// The lists of an item.
+fn refs_of(
+    alloc: Global,
+    ids: &[u32],
+    boxes: &[&RefBox],
+    from: u32,
+) -> Result<Refs, NoMemory>
+    requires rise { Rises ◌<◌ ids.now }
+    requires sorted { AreInOrder boxes.now }
+    ensures { IfOk result (λ refs. refs ≡ kept ids.now (seen boxes.now) from) }
+{
+    let mut refs = Refs::new(alloc);
+    let mut rest = from_item(boxes, from);
+    while let Some(kind) = first_kind(rest, from) {
+        let (run, later) = split_run(rest, from, kind);
+        let to = targets(alloc, ids, run)?;
+        if !kind.is(ILOC) && to.len() > 0 {
+            refs.push(RefList { kind, to })?;
+        }
+        rest = later;
+    }
+    Ok(refs)
+}
+
+/// The references that a store keeps for each of the items with these ids, in their order, of the boxes
+/// of `iref` in file order: of each type but `iloc` the ids of items, by rising type. `NoMemory` comes where memory
+/// was refused. Which references are kept is this project's own rule.
+pub fn kept_refs(alloc: Global, ids: &[u32], links: &[RefBox]) -> Result<Vec<Refs>, NoMemory>
+    requires { Rises ◌<◌ ids.now }
+    ensures { IfOk result (λ lists. lists.items ≡ map (kept ids.now links.now) ids.now) }
+{
+    let boxes = in_order(alloc, links)?;
+    let mut lists = Vec::with_capacity(alloc, ids.len())?;
+    for id in ids {
+        lists.push(refs_of(alloc, ids, &boxes, *id)?)?;
+    }
+    Ok(lists)
+}
