@@ -1,7 +1,7 @@
 -- Boxes that are sorted by items and types.
-use Rattle.std.proofs.Common.{◌≡◌, ◌≢◌, ◌<◌, ◌≤◌, ◌+◌, arith, length, take, drop, get_or, ℕ, zero, suc, Bool, true, false, not, ◌&&◌, eqb, List, [], ◌∷◌, ◌++◌, map, refl, sym, ap, subst, ◌∙◌, inl, inr, ◌⊎◌}
-use Rattle.std.specs.List.{AllByRecursion, AllWithin, filter, flat_map}
-use Rattle.std.specs.List.Sorted.{IsSortedBy, IsSortedByKey, IsPartitionedBy, IsPartitionPoint, IsStableByKey, ties}
+use Rattle.std.proofs.Common.{◌≡◌, ◌≢◌, ◌<◌, ◌≤◌, ◌+◌, arith, length, take, drop, get_or, ℕ, zero, suc, Bool, true, false, not, ◌&&◌, eqb, ltb, List, [], ◌∷◌, ◌++◌, map, refl, sym, ap, subst, ◌∙◌, inl, inr, ◌⊎◌, Some}
+use Rattle.std.specs.List.{AllByRecursion, AllWithin, filter, flat_map, slice_get}
+use Rattle.std.specs.List.Sorted.{IsSortedBy, IsSortedByKey, IsPartitionedBy, IsPartitionPoint, IsNonDecreasingBy, IsStableByKey, ties}
 use Rattle.std.specs.Cmp.{IsTotalOrder, IsStrictWeakOrder}
 use Rattle.std.specs.Ordering.{nat_cmp, ordering_then, ordering_reverse, is_lt}
 use Rattle.std.specs.declared.cmp.Ordering.{Ordering}
@@ -9,8 +9,8 @@ use Rattle.std.specs.declared.cmp.Ordering.TheVariants.{Less, Equal, Greater}
 use Rattle.std.specs.Cmp.Lexicographic.{slice_cmp}
 use Rattle.std.proofs.lemmas.Cmp.{nat_cmp_total, nat_list_cmp_total, on_total, then_total, tied_itself}
 use Rattle.std.proofs.lemmas.Map.Lookups.{exact_bytes, exact_unsigned}
-use Rattle.std.proofs.lemmas.List.Sorted.{ranks_by, sorted_far}
-use Rattle.std.proofs.lemmas.Bool.{cases_Bool, and_parts, eqb-true, eq-eqb, false_from_ne_true}
+use Rattle.std.proofs.lemmas.List.Sorted.{ranks_by, sorted_far, IsPartitionedBy-ltb}
+use Rattle.std.proofs.lemmas.Bool.{cases_Bool, cases_lt, and_parts, eqb-true, eq-eqb, lt-ltb, ltb-true, ltb-false, false_from_ne_true}
 use Rattle.hf_base.specs.declared.four.FourCc.{FourCc}
 use Rattle.hf_base.specs.declared.kinds.TheConstants.{ILOC}
 use Rattle.hf_base.specs.declared.loc.RefBox.{RefBox}
@@ -22,12 +22,13 @@ use Rattle.hf_base.specs.Members.{IsIn}
 use Rattle.hf_store.specs.declared.item.RefList.{RefList}
 use Rattle.hf_store.specs.References.{joined, kinds_of, IsKept, KeepsRefs}
 use Rattle.hf_store.proofs.References.{references_once}
-use Rattle.hf_read.specs.Kept.{kept_refs}
+use Rattle.hf_read.specs.Kept.{is_kept_link, kept_refs}
 use Rattle.hf_read.specs.Gathered.{AreInOrder, BeginsWith, BeginsElsewhere, is_of, is_later, key_of, order, seen}
 use Rattle.hf_read.proofs.Filters.{passes}
 use Rattle.hf_read.proofs.KeptRefs.{refs_are_kept}
 use Rattle.hf_read.proofs.RunLaws.{passed_over, none_kept}
 use denote.Ref.{Bor}
+use native.Mathlib.Numerals.{unary_clauses}
 
 -- ---- the order
 
@@ -62,6 +63,11 @@ compared a b = elim (answers (order a b) (order b a) (order_total.antisymm b a))
   | inr (inr h) ↦ After h.0 h.1
 ]
 
+level : (o p : Ordering) → ordering_then o p ≡ Equal → (o ≡ Equal) × (p ≡ Equal)
+level Less p e = absurd cc
+level Equal p e = (refl, e)
+level Greater p e = absurd cc
+
 -- places that tie are one
 one_place : (from : ℕ) (kind : FourCc) (b : RefBox) → order (from, kind) (key_of b) ≡ Equal → is_of from kind b ≡ true
 one_place from kind b e =
@@ -95,6 +101,7 @@ bare : ℕ → FourCc → Bor RefBox
 bare from kind = record { ref_ptr = (0, 0); now = record { kind = kind; from = from; to = [] } }
 
 seen_of : (from : ℕ) (kind : FourCc) (boxes : List (Bor RefBox)) → filter (is_of from kind) (seen boxes) ≡ seen (filter (ties comes_first (bare from kind)) boxes)
+unfolding bare
 seen_of from kind [] = refl
 seen_of from kind (b ∷ bs) =
     let test = tied from kind b.now in
@@ -152,7 +159,7 @@ same_kept ids from bs links same =
 pub in_order_from : (n : ℕ) (boxes : List (Bor RefBox)) → AreInOrder boxes → AreInOrder (drop n boxes)
 in_order_from zero boxes up = up
 in_order_from (suc n) [] up = up
-in_order_from (suc n) (b ∷ bs) up = in_order_from n bs (λ k d low high. up (suc k) d (omega (arith, low)) (omega (arith, high)))
+in_order_from (suc n) (b ∷ bs) up = in_order_from n bs (λ k d low high. simp unary_clauses (simp unary_clauses at (up (suc k) d (omega arith) (omega (arith, high)))))
 
 front_all : {A : Type 0} (P : A → Type 0) (xs : List A) (i : ℕ) → i ≤ length xs → AllWithin P xs 0 i → AllByRecursion P (take i xs)
 front_all P xs zero le all = tt
@@ -213,3 +220,62 @@ pub run_some : (from : ℕ) (kind : FourCc) (boxes : List (Bor RefBox)) (i : ℕ
 run_some from kind [] i own point = absurd own
 run_some from kind (b ∷ bs) zero own point = absurd (let f : is_of from kind b.now ≡ false = point.1 0 b (omega arith) (omega arith) in let both : true ≡ false = sym own ∙ f in cc)
 run_some from kind (b ∷ bs) (suc i) own point = omega arith
+
+-- ---- the first box
+
+pub begins : (from : ℕ) (boxes : List (Bor RefBox)) (first : Bor RefBox) → Some first ≡ slice_get boxes 0 → first.now.from ≡ from → BeginsWith from first.now.kind (seen boxes)
+begins from [] first is own = absurd cc
+begins from (b ∷ bs) first is own =
+    let same = same_kind first.now.kind first.now.kind refl in
+    let t = eq-eqb first.now.from from own in
+    let here : is_of from first.now.kind first.now ≡ true = rw (t, same) refl in
+    let met : first ≡ b = unwrapped first b is in
+    subst (λ (x : Bor RefBox). is_of from first.now.kind x.now ≡ true) met here
+  where
+    unwrapped : (a b : Bor RefBox) → Some a ≡ Some b → a ≡ b
+    unwrapped a b e = cc
+
+below_number : (x y : ℕ) → x < y → nat_cmp x y ≡ Less
+below_number x y lt = let t = lt-ltb x y lt in rw t refl
+
+at_most : (a b : ℕ × FourCc) → is_lt (order b a) ≡ false → a.0 ≤ b.0
+at_most a b h = elim (cases_lt b.0 a.0) [
+  | inl lt ↦ (let first = below_number b.0 a.0 lt in let both : true ≡ false = sym (ap (λ (o : Ordering). is_lt (ordering_then o (slice_cmp nat_cmp b.1.0 a.1.0))) first) ∙ h in absurd cc)
+  | inr ge ↦ ge
+]
+
+later_items : (from : ℕ) (boxes : List (Bor RefBox)) → AreInOrder boxes → AllByRecursion (λ (b : RefBox). from ≤ b.from) (seen boxes) → BeginsElsewhere from (seen boxes) → AllByRecursion (λ (b : Bor RefBox). eqb b.now.from from ≡ false) boxes
+later_items from [] up reached other = tt
+later_items from (b ∷ bs) up reached other =
+    let apart : b.now.from ≡ from → ⊥ = λ e. (let t = eq-eqb b.now.from from e in let both : true ≡ false = sym t ∙ other in cc) in
+    let less : from < b.now.from = omega (arith, reached.0, apart) in
+    (other, back_all (λ (x : Bor RefBox). eqb x.now.from from ≡ false) (b ∷ bs) 1 (λ k d low high.
+        let x = get_or (b ∷ bs) k d in
+        let le = at_most (key_of b.now) (key_of x.now) (far (b ∷ bs) up 0 k d (omega arith) high) in
+        false_from_ne_true (eqb x.now.from from) (λ t. let e = eqb-true x.now.from from t in omega (arith, le, less, e))))
+
+-- an item gets nothing of boxes of later items
+pub nothing_left : (ids : List ℕ) (from : ℕ) (boxes : List (Bor RefBox)) → AreInOrder boxes → AllByRecursion (λ (b : RefBox). from ≤ b.from) (seen boxes) → BeginsElsewhere from (seen boxes) → kept_refs ids (seen boxes) from ≡ []
+nothing_left ids from boxes up reached other = none_kept ids from (seen boxes) (all_seen (λ (b : RefBox). eqb b.from from ≡ false) boxes (later_items from boxes up reached other))
+
+-- ---- the boxes of earlier items
+
+items_rise : (boxes : List (Bor RefBox)) → AreInOrder boxes → IsNonDecreasingBy (λ (b : Bor RefBox). b.now.from) boxes
+items_rise boxes up i j d le less = at_most (key_of (get_or boxes i d).now) (key_of (get_or boxes j d).now) (far boxes up i j d le less)
+
+pub earlier_are_front : (from : ℕ) (boxes : List (Bor RefBox)) → AreInOrder boxes → IsPartitionedBy (λ (b : Bor RefBox). ltb b.now.from from) boxes
+earlier_are_front from boxes up = IsPartitionedBy-ltb (λ (b : Bor RefBox). b.now.from) boxes from (items_rise boxes up)
+
+pub item_reached : (from : ℕ) (boxes : List (Bor RefBox)) (i : ℕ) → IsPartitionPoint (λ (b : Bor RefBox). ltb b.now.from from ≡ true) (λ (b : Bor RefBox). ltb b.now.from from ≡ false) boxes i → AllByRecursion (λ (b : RefBox). from ≤ b.from) (seen (drop i boxes))
+item_reached from boxes i point = all_seen (λ (b : RefBox). from ≤ b.from) (drop i boxes) (back_all (λ (b : Bor RefBox). from ≤ b.now.from) boxes i (λ k d low high. ltb-false (get_or boxes k d).now.from from (point.1 k d low high)))
+
+pub earlier_are_none : (from : ℕ) (boxes : List (Bor RefBox)) (i : ℕ) → i ≤ length boxes → IsPartitionPoint (λ (b : Bor RefBox). ltb b.now.from from ≡ true) (λ (b : Bor RefBox). ltb b.now.from from ≡ false) boxes i
+    → (ids : List ℕ) → kept_refs ids (seen (drop i boxes)) from ≡ kept_refs ids (seen boxes) from
+earlier_are_none from boxes i le point ids =
+    let unkept : (b : RefBox) → ltb b.from from ≡ true → is_kept_link from b ≡ false = λ b t.
+        let less = ltb-true b.from from t in
+        let other : eqb b.from from ≡ false = false_from_ne_true (eqb b.from from) (λ own. let e = eqb-true b.from from own in omega (arith, less, e)) in
+        rw other refl in
+    let front : AllByRecursion (λ (b : RefBox). is_kept_link from b ≡ false) (seen (take i boxes)) =
+    all_seen (λ (b : RefBox). is_kept_link from b ≡ false) (take i boxes) (front_all (λ (b : Bor RefBox). is_kept_link from b.now ≡ false) boxes i le (λ k d low high. unkept (get_or boxes k d).now (point.0 k d low high))) in
+    sym (ap (λ (l : List RefBox). kept_refs ids l from) (split_seen i boxes) ∙ passed_over ids from (seen (take i boxes)) (seen (drop i boxes)) front)

@@ -8,6 +8,7 @@ use Rattle.std.specs.Cmp.Lexicographic.{slice_cmp}
 use Rattle.std.proofs.lemmas.Cmp.{nat_cmp_total, tied_itself}
 use Rattle.std.proofs.lemmas.Bool.{cases_Bool, and_parts, eqb-true, eq-eqb, false_from_ne_true}
 use Rattle.std.proofs.lemmas.List.{append-nil, append_assoc}
+use Rattle.std.proofs.lemmas.List.Elements.{filter-append}
 use Rattle.hf_base.specs.Entries.{has_id}
 use Rattle.hf_base.specs.Members.{IsIn}
 use Rattle.hf_base.specs.declared.four.FourCc.{FourCc}
@@ -22,7 +23,7 @@ use Rattle.hf_store.specs.References.{joined}
 use Rattle.hf_store.specs.Valid.{IsBelow}
 use Rattle.hf_store.proofs.References.{below_irreflexive, below_transitive}
 use Rattle.hf_read.specs.Kept.{is_below, with_kind, is_kept_link, kept_kinds, kept_list, kept_refs}
-use Rattle.hf_read.specs.Gathered.{is_of, is_later, order, key_of}
+use Rattle.hf_read.specs.Gathered.{is_of, is_later, order, key_of, list_if_any}
 use Rattle.hf_read.proofs.Filters.{not_false, not_true}
 use Rattle.hf_read.proofs.KeptRefs.{kind_box, not_iloc, is_less}
 
@@ -170,6 +171,10 @@ later_lists ids from kind run later own after = lists_same ids (run ++ later) la
         below_irreflexive kind (subst (λ (y : FourCc). IsBelow kind y) (is_same_kind k x.kind t ∙ sym (kind_of from kind x mine)) below)) in
     unjoined (λ to. has_id to ids) k from run (each (λ (b : RefBox). is_of from kind b ≡ true) (λ (b : RefBox). is_of from k b ≡ false) others run own) later)
 
+kept_is : (ids : List ℕ) (links : List RefBox) (from : ℕ) → kept_refs ids links from ≡ filter (λ (r : RefList). not_empty r.to) (map (kept_list ids links from) (kept_kinds from links))
+unfolding kept_refs
+kept_is ids links from = refl
+
 -- what an item keeps of a run and of the boxes after it
 run_kept : (ids : List ℕ) (from : ℕ) (kind : FourCc) → kind ≢ ILOC → (b : RefBox) (run later : List RefBox) → AllByRecursion (λ (b : RefBox). is_of from kind b ≡ true) (b ∷ run) → AllByRecursion (λ (b : RefBox). is_later from kind b ≡ true) later
     → kept_refs ids (b ∷ run ++ later) from ≡ filter (λ (r : RefList). not_empty r.to) (kept_list ids (b ∷ run ++ later) from kind ∷ map (kept_list ids later from) (kept_kinds from later))
@@ -182,42 +187,31 @@ run_kept ids from kind other b run later own after =
 abbrev pub led_to : List ℕ → List RefBox → List ℕ
 led_to ids run = flat_map (λ (b : RefBox). filter (λ to. has_id to ids) b.to) run
 
-no_ids : (to : List ℕ) → length to ≤ 0 → not_empty to ≡ false
-no_ids [] none = refl
-no_ids (x ∷ xs) none = absurd (omega (arith, none))
-
-some_ids : (to : List ℕ) → 0 < length to → not_empty to ≡ true
-some_ids [] some = absurd (omega (arith, some))
-some_ids (x ∷ xs) some = refl
-
-pub some_run : (ids : List ℕ) (from : ℕ) (kind : FourCc) (run later : List RefBox) (to : List ℕ) → kind ≢ ILOC → AllByRecursion (λ (b : RefBox). is_of from kind b ≡ true) run → AllByRecursion (λ (b : RefBox). is_later from kind b ≡ true) later
-    → to ≡ led_to ids run → 0 < length to → kept_refs ids (run ++ later) from ≡ record { kind = kind; to = to } ∷ kept_refs ids later from
-unfolding kept_refs
-some_run ids from kind [] later to other own after is some = let none : length to ≡ 0 = ap length is in absurd (omega (arith, none, some))
-some_run ids from kind (b ∷ run) later to other own after is some =
+-- of a run of boxes and those after it an item keeps the list of the run
+own_run : (ids : List ℕ) (from : ℕ) (kind : FourCc) (run later : List RefBox) → kind ≢ ILOC → AllByRecursion (λ (b : RefBox). is_of from kind b ≡ true) run → AllByRecursion (λ (b : RefBox). is_later from kind b ≡ true) later
+    → kept_refs ids (run ++ later) from ≡ filter (λ (r : RefList). not_empty r.to) (record { kind = kind; to = led_to ids run } ∷ []) ++ kept_refs ids later from
+own_run ids from kind [] later other own after = refl
+own_run ids from kind (b ∷ run) later other own after =
     let listed : List ℕ → RefList = λ t. record { kind = kind; to = t } in
-    let list : kept_list ids (b ∷ run ++ later) from kind ≡ listed to = ap listed (run_list ids from kind (b ∷ run) later own after ∙ sym is) in
-    let some' = some_ids to some in
+    let some : RefList → Bool = λ r. not_empty r.to in
+    let list : kept_list ids (b ∷ run ++ later) from kind ≡ listed (led_to ids (b ∷ run)) = ap listed (run_list ids from kind (b ∷ run) later own after) in
     let more : List RefList = map (kept_list ids later from) (kept_kinds from later) in
-    let kept : filter (λ (r : RefList). not_empty r.to) (listed to ∷ more) ≡ listed to ∷ filter (λ (r : RefList). not_empty r.to) more = rw some' refl in
-    run_kept ids from kind other b run later own after ∙ ap (λ (r : RefList). filter (λ (r : RefList). not_empty r.to) (r ∷ more)) list ∙ kept
+    let rest : kept_refs ids later from ≡ filter some more = kept_is ids later from in
+    run_kept ids from kind other b run later own after ∙ ap (λ (r : RefList). filter some (r ∷ more)) list
+    ∙ filter-append some (listed (led_to ids (b ∷ run)) ∷ []) more
+    ∙ ap (λ (l : List RefList). filter some (listed (led_to ids (b ∷ run)) ∷ []) ++ l) (sym rest)
 
-pub none_run : (ids : List ℕ) (from : ℕ) (kind : FourCc) (run later : List RefBox) (to : List ℕ) → kind ≢ ILOC → AllByRecursion (λ (b : RefBox). is_of from kind b ≡ true) run → AllByRecursion (λ (b : RefBox). is_later from kind b ≡ true) later
-    → to ≡ led_to ids run → length to ≤ 0 → kept_refs ids (run ++ later) from ≡ kept_refs ids later from
-unfolding kept_refs
-none_run ids from kind [] later to other own after is none = refl
-none_run ids from kind (b ∷ run) later to other own after is none =
-    let listed : List ℕ → RefList = λ t. record { kind = kind; to = t } in
-    let list : kept_list ids (b ∷ run ++ later) from kind ≡ listed to = ap listed (run_list ids from kind (b ∷ run) later own after ∙ sym is) in
-    let none' = no_ids to none in
-    let more : List RefList = map (kept_list ids later from) (kept_kinds from later) in
-    let kept : filter (λ (r : RefList). not_empty r.to) (listed to ∷ more) ≡ filter (λ (r : RefList). not_empty r.to) more = rw none' refl in
-    run_kept ids from kind other b run later own after ∙ ap (λ (r : RefList). filter (λ (r : RefList). not_empty r.to) (r ∷ more)) list ∙ kept
-
-pub iloc_run : (ids : List ℕ) (from : ℕ) (kind : FourCc) (run later : List RefBox) → kind ≡ ILOC → AllByRecursion (λ (b : RefBox). is_of from kind b ≡ true) run → kept_refs ids (run ++ later) from ≡ kept_refs ids later from
+iloc_run : (ids : List ℕ) (from : ℕ) (kind : FourCc) (run later : List RefBox) → kind ≡ ILOC → AllByRecursion (λ (b : RefBox). is_of from kind b ≡ true) run → kept_refs ids (run ++ later) from ≡ kept_refs ids later from
 iloc_run ids from kind run later iloc own = passed_over ids from run later (each (λ (b : RefBox). is_of from kind b ≡ true) (λ (b : RefBox). is_kept_link from b ≡ false) (λ b mine.
     and_false (eqb b.from from) (not (is_kind b.kind ILOC)) (λ same other.
         clash (is_kind b.kind ILOC) (same_kind b.kind ILOC (sym (kind_of from kind b mine) ∙ iloc)) (not_true (is_kind b.kind ILOC) other))) run own)
+
+pub run_step : (ids : List ℕ) (from : ℕ) (kind : FourCc) (run later : List RefBox) → AllByRecursion (λ (b : RefBox). is_of from kind b ≡ true) run → AllByRecursion (λ (b : RefBox). is_later from kind b ≡ true) later
+    → kept_refs ids (run ++ later) from ≡ list_if_any kind (led_to ids run) ++ kept_refs ids later from
+run_step ids from kind run later own after = elim (cases_Bool (is_kind kind ILOC)) [
+  | inl t ↦ rw t (iloc_run ids from kind run later (is_same_kind kind ILOC t) own)
+  | inr f ↦ rw f (own_run ids from kind run later (λ e. clash (is_kind kind ILOC) (same_kind kind ILOC e) f) own after)
+]
 
 -- boxes of later items give an item nothing
 pub none_kept : (ids : List ℕ) (from : ℕ) (bs : List RefBox) → AllByRecursion (λ (b : RefBox). eqb b.from from ≡ false) bs → kept_refs ids bs from ≡ []

@@ -1,12 +1,15 @@
 -- The boxes of `iref` in the order in which a store keeps them: by items, and then by types.
-use Rattle.std.specs.Prelude.{◌≡◌, ℕ, false, true, Bool, ◌&&◌, List, [], ◌∷◌, map, ◌==◌}
+use Rattle.std.specs.Prelude.{◌≡◌, ℕ, false, true, Bool, ◌&&◌, List, [], ◌∷◌, map, filter, ◌==◌, if◌then◌else◌}
 use Rattle.std.specs.Ordering.{nat_cmp, ordering_then, is_lt}
 use Rattle.std.specs.declared.cmp.Ordering.{Ordering}
 use Rattle.std.specs.Cmp.Lexicographic.{slice_cmp}
 use Rattle.std.specs.List.Sorted.{IsSortedByKey}
 use Rattle.hf_base.specs.declared.four.FourCc.{FourCc}
+use Rattle.hf_base.specs.declared.kinds.TheConstants.{ILOC}
 use Rattle.hf_base.specs.declared.loc.RefBox.{RefBox}
 use Rattle.hf_box.specs.Walk.{is_kind}
+use Rattle.hf_store.specs.Lists.{not_empty}
+use Rattle.hf_store.specs.declared.item.RefList.{RefList}
 use denote.Ref.{Bor}
 
 -- the boxes that these lead to
@@ -41,3 +44,7 @@ BeginsWith from kind (b ∷ bs) = is_of from kind b ≡ true
 abbrev pub BeginsElsewhere : ℕ → List RefBox → Type 0
 BeginsElsewhere from [] = Unit {0}
 BeginsElsewhere from (b ∷ bs) = (b.from == from) ≡ false
+
+-- the list of a type, unless that is `iloc`, whose references say where bytes lie, or the list is empty
+abbrev pub list_if_any : FourCc → List ℕ → List RefList
+list_if_any kind to = if is_kind kind ILOC then [] else filter (λ (r : RefList). not_empty r.to) (record { kind = kind; to = to } ∷ [])

@@ -7,7 +7,7 @@ ghost use Rattle.hf_base.specs.Members.{Rises};
 ghost use Rattle.hf_base.specs.declared.four.FourCc.{FourCc as Kind};
 ghost use Rattle.hf_base.specs.declared.loc.RefBox.{RefBox as Stated};
 ghost use Rattle.hf_read.specs.Kept.{kept_refs as kept};
-ghost use Rattle.hf_read.specs.Gathered.{AreInOrder, BeginsWith, BeginsElsewhere, is_later, is_of, seen};
+ghost use Rattle.hf_read.specs.Gathered.{AreInOrder, BeginsWith, BeginsElsewhere, is_later, is_of, list_if_any, seen};
 
 use crate::search::is_item;
 use hf_base::kinds::ILOC;
@@ -32,7 +32,8 @@ fn from_item<'a, 'b>(boxes: &'a [&'b RefBox], from: u32) -> &'a [&'b RefBox]
     ensures reached { AllByRecursion (λ b. from ≤ b.from) (seen result.now) }
     ensures kept { (ids : List ℕ) → kept ids (seen result.now) from ≡ kept ids (seen boxes.now) from }
 {
-    &boxes[boxes.partition_point(|link| link.from < from)..]
+    let (_, rest) = boxes.split_at(boxes.partition_point(|link| link.from < from));
+    rest
 }
 
 /// The type of the first box, where that is one of the item.
@@ -89,11 +90,21 @@ fn targets(alloc: Global, ids: &[u32], boxes: &[&RefBox]) -> Result<Ids, NoMemor
     Ok(to)
 }
 
+/// Adds the list of a type, unless that is `iloc` or the list is empty.
+fn push_list(refs: &mut Refs, kind: FourCc, to: Ids) -> Result<(), NoMemory>
+    ensures { OnOk result (refs.new ≡ refs.old ++ list_if_any kind to) }
+{
+    if kind.is(ILOC) || to.len() == 0 {
+        return Ok(());
+    }
+    refs.push(RefList { kind, to })
+}
+
 /// The lists of an item.
-fn refs_of(
+fn refs_of<'a, 'b>(
     alloc: Global,
     ids: &[u32],
-    boxes: &[&RefBox],
+    boxes: &'a [&'b RefBox],
     from: u32,
 ) -> Result<Refs, NoMemory>
     requires rise { Rises ◌<◌ ids.now }
@@ -105,9 +116,7 @@ fn refs_of(
     while let Some(kind) = first_kind(rest, from) {
         let (run, later) = split_run(rest, from, kind);
         let to = targets(alloc, ids, run)?;
-        if !kind.is(ILOC) && to.len() > 0 {
-            refs.push(RefList { kind, to })?;
-        }
+        push_list(&mut refs, kind, to)?;
         rest = later;
     }
     Ok(refs)
