@@ -9,6 +9,7 @@ use Rattle.std.specs.declared.cmp.Ordering.TheVariants.{Less, Equal, Greater}
 use Rattle.std.specs.Cmp.Lexicographic.{slice_cmp}
 use Rattle.std.proofs.lemmas.Cmp.{nat_cmp_total, nat_list_cmp_total, on_total, then_total, tied_itself}
 use Rattle.std.proofs.lemmas.Map.Lookups.{exact_bytes, exact_unsigned}
+use Rattle.std.proofs.lemmas.List.{append-nil, append_assoc}
 use Rattle.std.proofs.lemmas.List.Sorted.{ranks_by, sorted_far, IsPartitionedBy-ltb}
 use Rattle.std.proofs.lemmas.Bool.{cases_Bool, cases_lt, and_parts, eqb-true, eq-eqb, lt-ltb, ltb-true, ltb-false, false_from_ne_true}
 use Rattle.hf_base.specs.declared.four.FourCc.{FourCc}
@@ -23,10 +24,10 @@ use Rattle.hf_store.specs.declared.item.RefList.{RefList}
 use Rattle.hf_store.specs.References.{joined, kinds_of, IsKept, KeepsRefs}
 use Rattle.hf_store.proofs.References.{references_once}
 use Rattle.hf_read.specs.Kept.{is_kept_link, kept_refs}
-use Rattle.hf_read.specs.Gathered.{AreInOrder, BeginsWith, BeginsElsewhere, is_of, is_later, key_of, order, seen}
+use Rattle.hf_read.specs.Gathered.{AreInOrder, BeginsWith, BeginsElsewhere, is_of, is_later, key_of, list_if_any, order, seen}
 use Rattle.hf_read.proofs.Filters.{passes}
 use Rattle.hf_read.proofs.KeptRefs.{refs_are_kept}
-use Rattle.hf_read.proofs.RunLaws.{passed_over, none_kept}
+use Rattle.hf_read.proofs.RunLaws.{led_to, none_kept, passed_over, run_step}
 use denote.Ref.{Bor}
 use native.Mathlib.Numerals.{unary_clauses}
 
@@ -279,3 +280,23 @@ earlier_are_none from boxes i le point ids =
     let front : AllByRecursion (λ (b : RefBox). is_kept_link from b ≡ false) (seen (take i boxes)) =
     all_seen (λ (b : RefBox). is_kept_link from b ≡ false) (take i boxes) (front_all (λ (b : Bor RefBox). is_kept_link from b.now ≡ false) boxes i le (λ k d low high. unkept (get_or boxes k d).now (point.0 k d low high))) in
     sym (ap (λ (l : List RefBox). kept_refs ids l from) (split_seen i boxes) ∙ passed_over ids from (seen (take i boxes)) (seen (drop i boxes)) front)
+
+-- ---- one run more
+
+pub reached_from : (from n : ℕ) (boxes : List (Bor RefBox)) → AllByRecursion (λ (b : RefBox). from ≤ b.from) (seen boxes) → AllByRecursion (λ (b : RefBox). from ≤ b.from) (seen (drop n boxes))
+reached_from from zero boxes all = all
+reached_from from (suc n) [] all = all
+reached_from from (suc n) (b ∷ bs) all = reached_from from n bs all.1
+
+pub run_more : (ids : List ℕ) (from : ℕ) (kind : FourCc) (rest : List (Bor RefBox)) (len : ℕ) (refs more whole : List RefList) (to : List ℕ) → refs ++ kept_refs ids (seen rest) from ≡ whole
+    → AllByRecursion (λ (b : RefBox). is_of from kind b ≡ true) (seen (take len rest)) → AllByRecursion (λ (b : RefBox). is_later from kind b ≡ true) (seen (drop len rest))
+    → to ≡ led_to ids (seen (take len rest)) → more ≡ refs ++ list_if_any kind to → more ++ kept_refs ids (seen (drop len rest)) from ≡ whole
+run_more ids from kind rest len refs more whole to so_far own later is pushed =
+    let left : List RefList = kept_refs ids (seen (drop len rest)) from in
+    let step : kept_refs ids (seen rest) from ≡ list_if_any kind to ++ left =
+    ap (λ (l : List RefBox). kept_refs ids l from) (split_seen len rest) ∙ run_step ids from kind (seen (take len rest)) (seen (drop len rest)) own later ∙ ap (λ (l : List ℕ). list_if_any kind l ++ left) (sym is) in
+    ap (λ (l : List RefList). l ++ left) pushed ∙ append_assoc refs (list_if_any kind to) left ∙ ap (λ (l : List RefList). refs ++ l) (sym step) ∙ so_far
+
+pub no_more : (ids : List ℕ) (from : ℕ) (rest : List (Bor RefBox)) (refs whole : List RefList) → refs ++ kept_refs ids (seen rest) from ≡ whole → AreInOrder rest → AllByRecursion (λ (b : RefBox). from ≤ b.from) (seen rest) → BeginsElsewhere from (seen rest) → refs ≡ whole
+no_more ids from rest refs whole so_far up reached other =
+    sym (append-nil refs) ∙ ap (λ (l : List RefList). refs ++ l) (sym (nothing_left ids from rest up reached other)) ∙ so_far

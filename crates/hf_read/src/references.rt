@@ -1,6 +1,6 @@
 //! The references that a store keeps of the boxes of `iref`.
 
-ghost use Rattle.std.specs.Prelude.{◌≡◌, ◌<◌, ◌≤◌, ◌++◌, ℕ, List, true, map, filter, flat_map, length, IfOk, OnOk, IfNone, IfSome};
+ghost use Rattle.std.specs.Prelude.{◌≡◌, ◌<◌, ◌≤◌, ◌++◌, ℕ, List, true, map, filter, flat_map, length, take, drop, IfOk, OnOk, IfNone, IfSome};
 ghost use Rattle.std.specs.List.{AllByRecursion};
 ghost use Rattle.hf_base.specs.Entries.{has_id};
 ghost use Rattle.hf_base.specs.Members.{Rises};
@@ -28,12 +28,12 @@ fn in_order<'a>(alloc: Global, links: &'a [RefBox]) -> Result<Vec<&'a RefBox>, N
 /// The boxes from the first one on that is not of an earlier item.
 fn from_item<'a, 'b>(boxes: &'a [&'b RefBox], from: u32) -> &'a [&'b RefBox]
     requires { AreInOrder boxes.now }
+    ensures within { length result.now ≤ length boxes.now }
     ensures sorted { AreInOrder result.now }
     ensures reached { AllByRecursion (λ b. from ≤ b.from) (seen result.now) }
     ensures kept { (ids : List ℕ) → kept ids (seen result.now) from ≡ kept ids (seen boxes.now) from }
 {
-    let (_, rest) = boxes.split_at(boxes.partition_point(|link| link.from < from));
-    rest
+    &boxes[boxes.partition_point(|link| link.from < from)..]
 }
 
 /// The type of the first box, where that is one of the item.
@@ -48,21 +48,16 @@ fn first_kind(boxes: &[&RefBox], from: u32) -> Option<FourCc>
     Some(first.kind)
 }
 
-/// Splits boxes in order behind those of the first one's item and type.
-fn split_run<'a, 'b>(
-    boxes: &'a [&'b RefBox],
-    from: u32,
-    kind: FourCc,
-) -> (&'a [&'b RefBox], &'a [&'b RefBox])
+/// How many boxes in order are of the first one's item and type.
+fn run_len(boxes: &[&RefBox], from: u32, kind: FourCc) -> usize
     requires sorted { AreInOrder boxes.now }
     requires first { BeginsWith from kind (seen boxes.now) }
-    ensures whole { seen boxes.now ≡ seen result.0.now ++ seen result.1.now }
-    ensures some { length result.1.now < length boxes.now }
-    ensures run { AllByRecursion (λ b. is_of from kind b ≡ true) (seen result.0.now) }
-    ensures later { AllByRecursion (λ b. is_later from kind b ≡ true) (seen result.1.now) }
-    ensures rest { AreInOrder result.1.now }
+    ensures within { result ≤ length boxes.now }
+    ensures some { 0 < result }
+    ensures run { AllByRecursion (λ b. is_of from kind b ≡ true) (seen (take result boxes.now)) }
+    ensures later { AllByRecursion (λ b. is_later from kind b ≡ true) (seen (drop result boxes.now)) }
 {
-    boxes.split_at(boxes.partition_point(|link| link.from == from && link.kind == kind))
+    boxes.partition_point(|link| link.from == from && link.kind == kind)
 }
 
 /// Adds those of these ids that are items.
@@ -114,10 +109,10 @@ fn refs_of<'a, 'b>(
     let mut refs = Refs::new(alloc);
     let mut rest = from_item(boxes, from);
     while let Some(kind) = first_kind(rest, from) {
-        let (run, later) = split_run(rest, from, kind);
-        let to = targets(alloc, ids, run)?;
+        let len = run_len(rest, from, kind);
+        let to = targets(alloc, ids, &rest[..len])?;
         push_list(&mut refs, kind, to)?;
-        rest = later;
+        rest = &rest[len..];
     }
     Ok(refs)
 }
