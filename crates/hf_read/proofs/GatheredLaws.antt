@@ -300,3 +300,10 @@ run_more ids from kind rest len refs more whole to so_far own later is pushed =
 pub no_more : (ids : List ℕ) (from : ℕ) (rest : List (Bor RefBox)) (refs whole : List RefList) → refs ++ kept_refs ids (seen rest) from ≡ whole → AreInOrder rest → AllByRecursion (λ (b : RefBox). from ≤ b.from) (seen rest) → BeginsElsewhere from (seen rest) → refs ≡ whole
 no_more ids from rest refs whole so_far up reached other =
     sym (append-nil refs) ∙ ap (λ (l : List RefList). refs ++ l) (sym (nothing_left ids from rest up reached other)) ∙ so_far
+
+-- sorted boxes give each item what the boxes of the file give it
+pub all_kept : (ids : List ℕ) (boxes : List (Bor RefBox)) (links : List RefBox) → ((from : ℕ) (kind : FourCc) → filter (is_of from kind) (seen boxes) ≡ filter (is_of from kind) links) → (some : List ℕ) → map (kept_refs ids (seen boxes)) some ≡ map (kept_refs ids links) some
+all_kept ids boxes links same [] = refl
+all_kept ids boxes links same (id ∷ some) =
+    let here = same_kept ids id (seen boxes) links same in
+    ap (λ (r : List RefList). r ∷ map (kept_refs ids (seen boxes)) some) here ∙ ap (λ (l : List (List RefList)). kept_refs ids links id ∷ l) (all_kept ids boxes links same some)
