@@ -1,7 +1,7 @@
 -- Boxes that are sorted by items and types.
-use Rattle.std.proofs.Common.{◌≡◌, ◌≢◌, ◌<◌, ◌≤◌, ◌+◌, arith, length, take, drop, get_or, ℕ, zero, suc, Bool, true, false, not, ◌&&◌, eqb, ltb, List, [], ◌∷◌, ◌++◌, map, refl, sym, ap, subst, ◌∙◌, inl, inr, ◌⊎◌, Some}
+use Rattle.std.proofs.Common.{◌≡◌, ◌<◌, ◌≤◌, arith, length, take, drop, get_or, ℕ, zero, suc, Bool, true, false, not, ◌&&◌, eqb, ltb, List, [], ◌∷◌, ◌++◌, map, refl, sym, ap, subst, ◌∙◌, inl, inr, ◌⊎◌, Some}
 use Rattle.std.specs.List.{AllByRecursion, AllWithin, filter, flat_map, slice_get}
-use Rattle.std.specs.List.Sorted.{IsSortedBy, IsSortedByKey, IsPartitionedBy, IsPartitionPoint, IsNonDecreasingBy, IsStableByKey, ties}
+use Rattle.std.specs.List.Sorted.{IsPartitionedBy, IsPartitionPoint, IsNonDecreasingBy, IsStableByKey, ties}
 use Rattle.std.specs.Cmp.{IsTotalOrder, IsStrictWeakOrder}
 use Rattle.std.specs.Ordering.{nat_cmp, ordering_then, ordering_reverse, is_lt}
 use Rattle.std.specs.declared.cmp.Ordering.{Ordering}
@@ -16,7 +16,7 @@ use Rattle.hf_base.specs.declared.four.FourCc.{FourCc}
 use Rattle.hf_base.specs.declared.kinds.TheConstants.{ILOC}
 use Rattle.hf_base.specs.declared.loc.RefBox.{RefBox}
 use Rattle.hf_box.specs.Walk.{is_kind}
-use Rattle.hf_box.proofs.SameKinds.{same_kind, is_same_kind, other_kind}
+use Rattle.hf_box.proofs.SameKinds.{same_kind, is_same_kind}
 use Rattle.hf_order.proofs.Members.{in_all, all_from, in_filter}
 use Rattle.hf_base.specs.Entries.{has_id}
 use Rattle.hf_base.specs.Members.{IsIn}
@@ -24,7 +24,7 @@ use Rattle.hf_store.specs.declared.item.RefList.{RefList}
 use Rattle.hf_store.specs.References.{joined, kinds_of, IsKept, KeepsRefs}
 use Rattle.hf_store.proofs.References.{references_once}
 use Rattle.hf_read.specs.Kept.{is_kept_link, kept_refs}
-use Rattle.hf_read.specs.Gathered.{AreInOrder, BeginsWith, BeginsElsewhere, is_of, is_later, key_of, list_if_any, order, seen}
+use Rattle.hf_read.specs.Gathered.{AreInOrder, AreLater, AreOf, IsRun, BeginsWith, BeginsElsewhere, is_of, is_later, key_of, list_if_any, order, seen}
 use Rattle.hf_read.proofs.Filters.{passes}
 use Rattle.hf_read.proofs.KeptRefs.{refs_are_kept}
 use Rattle.hf_read.proofs.RunLaws.{led_to, none_kept, passed_over, run_step}
@@ -157,6 +157,10 @@ same_kept ids from bs links same =
 
 -- ---- front parts and the rest
 
+-- those below a place pass a test, and the others do not
+abbrev SplitsAt : (Bor RefBox → Bool) → List (Bor RefBox) → ℕ → Type 0
+SplitsAt test boxes i = IsPartitionPoint (λ (b : Bor RefBox). test b ≡ true) (λ (b : Bor RefBox). test b ≡ false) boxes i
+
 pub in_order_from : (n : ℕ) (boxes : List (Bor RefBox)) → AreInOrder boxes → AreInOrder (drop n boxes)
 in_order_from zero boxes up = up
 in_order_from (suc n) [] up = up
@@ -201,8 +205,8 @@ run_is_front from kind boxes up own i j d le less last =
     let high : is_lt (order (from, kind) (key_of x.now)) ≡ false = ap (λ (p : ℕ × FourCc). is_lt (order p (key_of x.now))) (sym (its_place from kind (get_or boxes j d).now last)) ∙ far boxes up i j d le less in
     sym (tied from kind x.now) ∙ (rw (high, low) refl)
 
-pub run_own : (from : ℕ) (kind : FourCc) (boxes : List (Bor RefBox)) (i : ℕ) → i ≤ length boxes → IsPartitionPoint (λ (b : Bor RefBox). is_of from kind b.now ≡ true) (λ (b : Bor RefBox). is_of from kind b.now ≡ false) boxes i
-    → AllByRecursion (λ (b : RefBox). is_of from kind b ≡ true) (seen (take i boxes))
+run_own : (from : ℕ) (kind : FourCc) (boxes : List (Bor RefBox)) (i : ℕ) → i ≤ length boxes → SplitsAt (λ (b : Bor RefBox). is_of from kind b.now) boxes i
+    → AreOf from kind (seen (take i boxes))
 run_own from kind boxes i le point = all_seen (λ (b : RefBox). is_of from kind b ≡ true) (take i boxes) (front_all (λ (b : Bor RefBox). is_of from kind b.now ≡ true) boxes i le point.0)
 
 after_run : (from : ℕ) (kind : FourCc) (b : RefBox) → is_of from kind b ≡ false → is_lt (order (key_of b) (from, kind)) ≡ false → is_later from kind b ≡ true
@@ -212,15 +216,23 @@ after_run from kind b other low = elim (compared (from, kind) (key_of b)) [
   | After e f ↦ (let both : true ≡ false = sym (ap is_lt f) ∙ low in absurd cc)
 ]
 
-pub run_later : (from : ℕ) (kind : FourCc) (boxes : List (Bor RefBox)) (i : ℕ) → AreInOrder boxes → BeginsWith from kind (seen boxes) → IsPartitionPoint (λ (b : Bor RefBox). is_of from kind b.now ≡ true) (λ (b : Bor RefBox). is_of from kind b.now ≡ false) boxes i
-    → AllByRecursion (λ (b : RefBox). is_later from kind b ≡ true) (seen (drop i boxes))
+run_later : (from : ℕ) (kind : FourCc) (boxes : List (Bor RefBox)) (i : ℕ) → AreInOrder boxes → BeginsWith from kind (seen boxes) → SplitsAt (λ (b : Bor RefBox). is_of from kind b.now) boxes i
+    → AreLater from kind (seen (drop i boxes))
 run_later from kind boxes i up own point = all_seen (λ (b : RefBox). is_later from kind b ≡ true) (drop i boxes) (back_all (λ (b : Bor RefBox). is_later from kind b.now ≡ true) boxes i
     (λ k d low high. after_run from kind (get_or boxes k d).now (point.1 k d low high) (not_before from kind boxes up own k d high)))
 
-pub run_some : (from : ℕ) (kind : FourCc) (boxes : List (Bor RefBox)) (i : ℕ) → BeginsWith from kind (seen boxes) → IsPartitionPoint (λ (b : Bor RefBox). is_of from kind b.now ≡ true) (λ (b : Bor RefBox). is_of from kind b.now ≡ false) boxes i → 0 < i
+run_some : (from : ℕ) (kind : FourCc) (boxes : List (Bor RefBox)) (i : ℕ) → BeginsWith from kind (seen boxes) → SplitsAt (λ (b : Bor RefBox). is_of from kind b.now) boxes i → 0 < i
 run_some from kind [] i own point = absurd own
 run_some from kind (b ∷ bs) zero own point = absurd (let f : is_of from kind b.now ≡ false = point.1 0 b (omega arith) (omega arith) in let both : true ≡ false = sym own ∙ f in cc)
 run_some from kind (b ∷ bs) (suc i) own point = omega arith
+
+pub run_ends : (from : ℕ) (kind : FourCc) (boxes : List (Bor RefBox)) (i : ℕ) → AreInOrder boxes → BeginsWith from kind (seen boxes) → i ≤ length boxes → SplitsAt (λ (b : Bor RefBox). is_of from kind b.now) boxes i → IsRun from kind boxes i
+run_ends from kind boxes i up own within point = record {
+  within = within;
+  some = run_some from kind boxes i own point;
+  own = run_own from kind boxes i within point;
+  later = run_later from kind boxes i up own point;
+}
 
 -- ---- the first box
 
@@ -267,10 +279,10 @@ items_rise boxes up i j d le less = at_most (key_of (get_or boxes i d).now) (key
 pub earlier_are_front : (from : ℕ) (boxes : List (Bor RefBox)) → AreInOrder boxes → IsPartitionedBy (λ (b : Bor RefBox). ltb b.now.from from) boxes
 earlier_are_front from boxes up = IsPartitionedBy-ltb (λ (b : Bor RefBox). b.now.from) boxes from (items_rise boxes up)
 
-pub item_reached : (from : ℕ) (boxes : List (Bor RefBox)) (i : ℕ) → IsPartitionPoint (λ (b : Bor RefBox). ltb b.now.from from ≡ true) (λ (b : Bor RefBox). ltb b.now.from from ≡ false) boxes i → AllByRecursion (λ (b : RefBox). from ≤ b.from) (seen (drop i boxes))
+pub item_reached : (from : ℕ) (boxes : List (Bor RefBox)) (i : ℕ) → SplitsAt (λ (b : Bor RefBox). ltb b.now.from from) boxes i → AllByRecursion (λ (b : RefBox). from ≤ b.from) (seen (drop i boxes))
 item_reached from boxes i point = all_seen (λ (b : RefBox). from ≤ b.from) (drop i boxes) (back_all (λ (b : Bor RefBox). from ≤ b.now.from) boxes i (λ k d low high. ltb-false (get_or boxes k d).now.from from (point.1 k d low high)))
 
-pub earlier_are_none : (from : ℕ) (boxes : List (Bor RefBox)) (i : ℕ) → i ≤ length boxes → IsPartitionPoint (λ (b : Bor RefBox). ltb b.now.from from ≡ true) (λ (b : Bor RefBox). ltb b.now.from from ≡ false) boxes i
+pub earlier_are_none : (from : ℕ) (boxes : List (Bor RefBox)) (i : ℕ) → i ≤ length boxes → SplitsAt (λ (b : Bor RefBox). ltb b.now.from from) boxes i
     → (ids : List ℕ) → kept_refs ids (seen (drop i boxes)) from ≡ kept_refs ids (seen boxes) from
 earlier_are_none from boxes i le point ids =
     let unkept : (b : RefBox) → ltb b.from from ≡ true → is_kept_link from b ≡ false = λ b t.
@@ -289,12 +301,11 @@ reached_from from (suc n) [] all = all
 reached_from from (suc n) (b ∷ bs) all = reached_from from n bs all.1
 
 pub run_more : (ids : List ℕ) (from : ℕ) (kind : FourCc) (rest : List (Bor RefBox)) (len : ℕ) (refs more whole : List RefList) (to : List ℕ) → refs ++ kept_refs ids (seen rest) from ≡ whole
-    → AllByRecursion (λ (b : RefBox). is_of from kind b ≡ true) (seen (take len rest)) → AllByRecursion (λ (b : RefBox). is_later from kind b ≡ true) (seen (drop len rest))
-    → to ≡ led_to ids (seen (take len rest)) → more ≡ refs ++ list_if_any kind to → more ++ kept_refs ids (seen (drop len rest)) from ≡ whole
-run_more ids from kind rest len refs more whole to so_far own later is pushed =
+    → IsRun from kind rest len → to ≡ led_to ids (seen (take len rest)) → more ≡ refs ++ list_if_any kind to → more ++ kept_refs ids (seen (drop len rest)) from ≡ whole
+run_more ids from kind rest len refs more whole to so_far run is pushed =
     let left : List RefList = kept_refs ids (seen (drop len rest)) from in
     let step : kept_refs ids (seen rest) from ≡ list_if_any kind to ++ left =
-    ap (λ (l : List RefBox). kept_refs ids l from) (split_seen len rest) ∙ run_step ids from kind (seen (take len rest)) (seen (drop len rest)) own later ∙ ap (λ (l : List ℕ). list_if_any kind l ++ left) (sym is) in
+    ap (λ (l : List RefBox). kept_refs ids l from) (split_seen len rest) ∙ run_step ids from kind (seen (take len rest)) (seen (drop len rest)) run.own run.later ∙ ap (λ (l : List ℕ). list_if_any kind l ++ left) (sym is) in
     ap (λ (l : List RefList). l ++ left) pushed ∙ append_assoc refs (list_if_any kind to) left ∙ ap (λ (l : List RefList). refs ++ l) (sym step) ∙ so_far
 
 pub no_more : (ids : List ℕ) (from : ℕ) (rest : List (Bor RefBox)) (refs whole : List RefList) → refs ++ kept_refs ids (seen rest) from ≡ whole → AreInOrder rest → AllByRecursion (λ (b : RefBox). from ≤ b.from) (seen rest) → BeginsElsewhere from (seen rest) → refs ≡ whole

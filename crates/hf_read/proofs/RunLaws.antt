@@ -1,12 +1,12 @@
 -- What an item keeps of boxes in order, a run of boxes of one type at a time.
-use Rattle.std.proofs.Common.{◌≡◌, ◌≢◌, ◌<◌, ◌≤◌, arith, length, ℕ, Bool, true, false, not, ◌&&◌, eqb, List, [], ◌∷◌, ◌++◌, map, refl, sym, ap, subst, ◌∙◌, inl, inr, ◌⊎◌}
+use Rattle.std.proofs.Common.{◌≡◌, ◌≢◌, ℕ, Bool, true, false, not, ◌&&◌, eqb, List, [], ◌∷◌, ◌++◌, map, refl, sym, ap, subst, ◌∙◌, inl, inr}
 use Rattle.std.specs.List.{AllByRecursion, filter, fold, flat_map}
 use Rattle.std.specs.Ordering.{nat_cmp, ordering_then, is_lt}
 use Rattle.std.specs.declared.cmp.Ordering.{Ordering}
-use Rattle.std.specs.declared.cmp.Ordering.TheVariants.{Less, Equal, Greater}
+use Rattle.std.specs.declared.cmp.Ordering.TheVariants.{Equal}
 use Rattle.std.specs.Cmp.Lexicographic.{slice_cmp}
 use Rattle.std.proofs.lemmas.Cmp.{nat_cmp_total, tied_itself}
-use Rattle.std.proofs.lemmas.Bool.{cases_Bool, and_parts, eqb-true, eq-eqb, false_from_ne_true}
+use Rattle.std.proofs.lemmas.Bool.{cases_Bool, and_parts, eqb-true, false_from_ne_true}
 use Rattle.std.proofs.lemmas.List.{append-nil, append_assoc}
 use Rattle.std.proofs.lemmas.List.Elements.{filter-append}
 use Rattle.hf_base.specs.Entries.{has_id}
@@ -23,7 +23,7 @@ use Rattle.hf_store.specs.References.{joined}
 use Rattle.hf_store.specs.Valid.{IsBelow}
 use Rattle.hf_store.proofs.References.{below_irreflexive, below_transitive}
 use Rattle.hf_read.specs.Kept.{is_below, with_kind, is_kept_link, kept_kinds, kept_list, kept_refs}
-use Rattle.hf_read.specs.Gathered.{is_of, is_later, order, key_of, list_if_any}
+use Rattle.hf_read.specs.Gathered.{AreLater, AreOf, is_of, is_later, list_if_any}
 use Rattle.hf_read.proofs.Filters.{not_false, not_true}
 use Rattle.hf_read.proofs.KeptRefs.{kind_box, not_iloc, is_less}
 
@@ -61,7 +61,7 @@ unjoined : (keep : ℕ → Bool) (kind : FourCc) (from : ℕ) (bs : List RefBox)
 unjoined keep kind from [] all more = refl
 unjoined keep kind from (b ∷ bs) all more = rw (all.0) (unjoined keep kind from bs all.1 more)
 
-all_joined : (keep : ℕ → Bool) (kind : FourCc) (from : ℕ) (bs : List RefBox) → AllByRecursion (λ (b : RefBox). is_of from kind b ≡ true) bs → (more : List RefBox) → joined keep kind from (bs ++ more) ≡ flat_map (λ (b : RefBox). filter keep b.to) bs ++ joined keep kind from more
+all_joined : (keep : ℕ → Bool) (kind : FourCc) (from : ℕ) (bs : List RefBox) → AreOf from kind bs → (more : List RefBox) → joined keep kind from (bs ++ more) ≡ flat_map (λ (b : RefBox). filter keep b.to) bs ++ joined keep kind from more
 all_joined keep kind from [] all more = refl
 all_joined keep kind from (b ∷ bs) all more =
     let whole : joined keep kind from (b ∷ bs ++ more) ≡ filter keep b.to ++ joined keep kind from (bs ++ more) = rw (all.0) refl in
@@ -117,7 +117,7 @@ kinds_behind kind (k ∷ ks) more all =
     let step : with_kind (kind ∷ more) k ≡ kind ∷ with_kind more k = rw (differs, after) refl in
     ap (λ (l : List FourCc). fold with_kind l ks) step ∙ kinds_behind kind ks (with_kind more k) all.1
 
-kinds_later : (from : ℕ) (kind : FourCc) (bs : List RefBox) → AllByRecursion (λ (b : RefBox). is_later from kind b ≡ true) bs → AllByRecursion (λ (k : FourCc). IsBelow kind k) (map (λ (r : RefBox). r.kind) (filter (is_kept_link from) bs))
+kinds_later : (from : ℕ) (kind : FourCc) (bs : List RefBox) → AreLater from kind bs → AllByRecursion (λ (k : FourCc). IsBelow kind k) (map (λ (r : RefBox). r.kind) (filter (is_kept_link from) bs))
 kinds_later from kind [] all = tt
 kinds_later from kind (b ∷ bs) all = elim (cases_Bool (is_kept_link from b)) [
   | inl t ↦
@@ -131,7 +131,7 @@ kinds_later from kind (b ∷ bs) all = elim (cases_Bool (is_kept_link from b)) [
 abbrev kinds_in : ℕ → List RefBox → List FourCc
 kinds_in from bs = map (λ (r : RefBox). r.kind) (filter (is_kept_link from) bs)
 
-kinds_more : (from : ℕ) (kind : FourCc) → kind ≢ ILOC → (run later : List RefBox) → AllByRecursion (λ (b : RefBox). is_of from kind b ≡ true) run → fold with_kind (kind ∷ []) (kinds_in from (run ++ later)) ≡ fold with_kind (kind ∷ []) (kinds_in from later)
+kinds_more : (from : ℕ) (kind : FourCc) → kind ≢ ILOC → (run later : List RefBox) → AreOf from kind run → fold with_kind (kind ∷ []) (kinds_in from (run ++ later)) ≡ fold with_kind (kind ∷ []) (kinds_in from later)
 kinds_more from kind other [] later own = refl
 kinds_more from kind other (b ∷ bs) later own =
     let kept = kept_of from kind other b own.0 in
@@ -140,7 +140,7 @@ kinds_more from kind other (b ∷ bs) later own =
     let step : with_kind (kind ∷ []) b.kind ≡ kind ∷ [] = rw same refl in
     ap (λ (ks : List FourCc). fold with_kind (kind ∷ []) ks) whole ∙ ap (λ (l : List FourCc). fold with_kind l (kinds_in from (bs ++ later))) step ∙ kinds_more from kind other bs later own.1
 
-kinds_run : (from : ℕ) (kind : FourCc) → kind ≢ ILOC → (b : RefBox) (run later : List RefBox) → AllByRecursion (λ (b : RefBox). is_of from kind b ≡ true) (b ∷ run) → AllByRecursion (λ (b : RefBox). is_later from kind b ≡ true) later → kept_kinds from (b ∷ run ++ later) ≡ kind ∷ kept_kinds from later
+kinds_run : (from : ℕ) (kind : FourCc) → kind ≢ ILOC → (b : RefBox) (run later : List RefBox) → AreOf from kind (b ∷ run) → AreLater from kind later → kept_kinds from (b ∷ run ++ later) ≡ kind ∷ kept_kinds from later
 kinds_run from kind other b run later own after =
     let kept = kept_of from kind other b own.0 in
     let whole : kinds_in from (b ∷ run ++ later) ≡ b.kind ∷ kinds_in from (run ++ later) = rw kept refl in
@@ -154,7 +154,7 @@ not_later from kind b later = and_false (eqb b.from from) (is_kind kind b.kind) 
     below_irreflexive kind (subst (λ (k : FourCc). IsBelow kind k) (sym (is_same_kind kind b.kind t)) (later_kind from kind b later (eqb-true b.from from own))))
 
 -- the list of a run of boxes has what they lead to
-run_list : (ids : List ℕ) (from : ℕ) (kind : FourCc) (run later : List RefBox) → AllByRecursion (λ (b : RefBox). is_of from kind b ≡ true) run → AllByRecursion (λ (b : RefBox). is_later from kind b ≡ true) later → joined (λ to. has_id to ids) kind from (run ++ later) ≡ flat_map (λ (b : RefBox). filter (λ to. has_id to ids) b.to) run
+run_list : (ids : List ℕ) (from : ℕ) (kind : FourCc) (run later : List RefBox) → AreOf from kind run → AreLater from kind later → joined (λ to. has_id to ids) kind from (run ++ later) ≡ flat_map (λ (b : RefBox). filter (λ to. has_id to ids) b.to) run
 run_list ids from kind run later own after =
     let keep : ℕ → Bool = λ to. has_id to ids in
     let none : joined keep kind from (later ++ []) ≡ [] = unjoined keep kind from later (each (λ (b : RefBox). is_later from kind b ≡ true) (λ (b : RefBox). is_of from kind b ≡ false) (not_later from kind) later after) [] in
@@ -163,7 +163,7 @@ run_list ids from kind run later own after =
     ∙ ap (λ (l : List ℕ). flat_map (λ (b : RefBox). filter keep b.to) run ++ l) none'
     ∙ append-nil (flat_map (λ (b : RefBox). filter keep b.to) run)
 
-later_lists : (ids : List ℕ) (from : ℕ) (kind : FourCc) (run later : List RefBox) → AllByRecursion (λ (b : RefBox). is_of from kind b ≡ true) run → AllByRecursion (λ (b : RefBox). is_later from kind b ≡ true) later → map (kept_list ids (run ++ later) from) (kept_kinds from later) ≡ map (kept_list ids later from) (kept_kinds from later)
+later_lists : (ids : List ℕ) (from : ℕ) (kind : FourCc) (run later : List RefBox) → AreOf from kind run → AreLater from kind later → map (kept_list ids (run ++ later) from) (kept_kinds from later) ≡ map (kept_list ids later from) (kept_kinds from later)
 later_lists ids from kind run later own after = lists_same ids (run ++ later) later from (kept_kinds from later) (λ k h.
     let b = kind_box from later k h in
     let below : IsBelow kind k = subst (λ (x : FourCc). IsBelow kind x) b.2 (later_kind from kind b.0 (in_all (λ (b : RefBox). is_later from kind b ≡ true) later after b.0 b.1) (own_of from b.0 b.3)) in
@@ -176,7 +176,7 @@ unfolding kept_refs
 kept_is ids links from = refl
 
 -- what an item keeps of a run and of the boxes after it
-run_kept : (ids : List ℕ) (from : ℕ) (kind : FourCc) → kind ≢ ILOC → (b : RefBox) (run later : List RefBox) → AllByRecursion (λ (b : RefBox). is_of from kind b ≡ true) (b ∷ run) → AllByRecursion (λ (b : RefBox). is_later from kind b ≡ true) later
+run_kept : (ids : List ℕ) (from : ℕ) (kind : FourCc) → kind ≢ ILOC → (b : RefBox) (run later : List RefBox) → AreOf from kind (b ∷ run) → AreLater from kind later
     → kept_refs ids (b ∷ run ++ later) from ≡ filter (λ (r : RefList). not_empty r.to) (kept_list ids (b ∷ run ++ later) from kind ∷ map (kept_list ids later from) (kept_kinds from later))
 unfolding kept_refs
 run_kept ids from kind other b run later own after =
@@ -188,7 +188,7 @@ abbrev pub led_to : List ℕ → List RefBox → List ℕ
 led_to ids run = flat_map (λ (b : RefBox). filter (λ to. has_id to ids) b.to) run
 
 -- of a run of boxes and those after it an item keeps the list of the run
-own_run : (ids : List ℕ) (from : ℕ) (kind : FourCc) (run later : List RefBox) → kind ≢ ILOC → AllByRecursion (λ (b : RefBox). is_of from kind b ≡ true) run → AllByRecursion (λ (b : RefBox). is_later from kind b ≡ true) later
+own_run : (ids : List ℕ) (from : ℕ) (kind : FourCc) (run later : List RefBox) → kind ≢ ILOC → AreOf from kind run → AreLater from kind later
     → kept_refs ids (run ++ later) from ≡ filter (λ (r : RefList). not_empty r.to) (record { kind = kind; to = led_to ids run } ∷ []) ++ kept_refs ids later from
 own_run ids from kind [] later other own after = refl
 own_run ids from kind (b ∷ run) later other own after =
@@ -201,12 +201,12 @@ own_run ids from kind (b ∷ run) later other own after =
     ∙ filter-append some (listed (led_to ids (b ∷ run)) ∷ []) more
     ∙ ap (λ (l : List RefList). filter some (listed (led_to ids (b ∷ run)) ∷ []) ++ l) (sym rest)
 
-iloc_run : (ids : List ℕ) (from : ℕ) (kind : FourCc) (run later : List RefBox) → kind ≡ ILOC → AllByRecursion (λ (b : RefBox). is_of from kind b ≡ true) run → kept_refs ids (run ++ later) from ≡ kept_refs ids later from
+iloc_run : (ids : List ℕ) (from : ℕ) (kind : FourCc) (run later : List RefBox) → kind ≡ ILOC → AreOf from kind run → kept_refs ids (run ++ later) from ≡ kept_refs ids later from
 iloc_run ids from kind run later iloc own = passed_over ids from run later (each (λ (b : RefBox). is_of from kind b ≡ true) (λ (b : RefBox). is_kept_link from b ≡ false) (λ b mine.
     and_false (eqb b.from from) (not (is_kind b.kind ILOC)) (λ same other.
         clash (is_kind b.kind ILOC) (same_kind b.kind ILOC (sym (kind_of from kind b mine) ∙ iloc)) (not_true (is_kind b.kind ILOC) other))) run own)
 
-pub run_step : (ids : List ℕ) (from : ℕ) (kind : FourCc) (run later : List RefBox) → AllByRecursion (λ (b : RefBox). is_of from kind b ≡ true) run → AllByRecursion (λ (b : RefBox). is_later from kind b ≡ true) later
+pub run_step : (ids : List ℕ) (from : ℕ) (kind : FourCc) (run later : List RefBox) → AreOf from kind run → AreLater from kind later
     → kept_refs ids (run ++ later) from ≡ list_if_any kind (led_to ids run) ++ kept_refs ids later from
 run_step ids from kind run later own after = elim (cases_Bool (is_kind kind ILOC)) [
   | inl t ↦ rw t (iloc_run ids from kind run later (is_same_kind kind ILOC t) own)

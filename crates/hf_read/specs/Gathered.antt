@@ -1,5 +1,6 @@
 -- The boxes of `iref` in the order in which a store keeps them: by items, and then by types.
-use Rattle.std.specs.Prelude.{◌≡◌, ℕ, false, true, Bool, ◌&&◌, List, [], ◌∷◌, map, filter, ◌==◌, if◌then◌else◌}
+use Rattle.std.specs.Prelude.{◌≡◌, ◌<◌, ◌≤◌, length, take, drop, ℕ, false, true, Bool, ◌&&◌, List, [], ◌∷◌, map, filter, ◌==◌, if◌then◌else◌}
+use Rattle.std.specs.List.{AllByRecursion}
 use Rattle.std.specs.Ordering.{nat_cmp, ordering_then, is_lt}
 use Rattle.std.specs.declared.cmp.Ordering.{Ordering}
 use Rattle.std.specs.Cmp.Lexicographic.{slice_cmp}
@@ -48,3 +49,16 @@ BeginsElsewhere from (b ∷ bs) = (b.from == from) ≡ false
 -- the list of a type, unless that is `iloc`, whose references say where bytes lie, or the list is empty
 abbrev pub list_if_any : FourCc → List ℕ → List RefList
 list_if_any kind to = if is_kind kind ILOC then [] else filter (λ (r : RefList). not_empty r.to) (record { kind = kind; to = to } ∷ [])
+
+abbrev pub AreOf : ℕ → FourCc → List RefBox → Type 0
+AreOf from kind bs = AllByRecursion (λ (b : RefBox). is_of from kind b ≡ true) bs
+
+abbrev pub AreLater : ℕ → FourCc → List RefBox → Type 0
+AreLater from kind bs = AllByRecursion (λ (b : RefBox). is_later from kind b ≡ true) bs
+
+-- so many boxes, and some, are of this item and type, and those after them are later
+pub record IsRun (from : ℕ) (kind : FourCc) (boxes : List (Bor RefBox)) (len : ℕ) : Type 0 where
+  pub within : len ≤ length boxes
+  pub some : 0 < len
+  pub own : AreOf from kind (seen (take len boxes))
+  pub later : AreLater from kind (seen (drop len boxes))

@@ -7,7 +7,7 @@ ghost use Rattle.hf_base.specs.Members.{Rises};
 ghost use Rattle.hf_base.specs.declared.four.FourCc.{FourCc as Kind};
 ghost use Rattle.hf_base.specs.declared.loc.RefBox.{RefBox as Stated};
 ghost use Rattle.hf_read.specs.Kept.{kept_refs as kept};
-ghost use Rattle.hf_read.specs.Gathered.{AreInOrder, BeginsWith, BeginsElsewhere, is_later, is_of, list_if_any, seen};
+ghost use Rattle.hf_read.specs.Gathered.{AreInOrder, BeginsElsewhere, BeginsWith, IsRun, is_of, list_if_any, seen};
 
 use crate::search::is_item;
 use hf_base::kinds::ILOC;
@@ -52,10 +52,7 @@ fn first_kind(boxes: &[&RefBox], from: u32) -> Option<FourCc>
 fn run_len(boxes: &[&RefBox], from: u32, kind: FourCc) -> usize
     requires sorted { AreInOrder boxes.now }
     requires first { BeginsWith from kind (seen boxes.now) }
-    ensures within { result ≤ length boxes.now }
-    ensures some { 0 < result }
-    ensures run { AllByRecursion (λ b. is_of from kind b ≡ true) (seen (take result boxes.now)) }
-    ensures later { AllByRecursion (λ b. is_later from kind b ≡ true) (seen (drop result boxes.now)) }
+    ensures { IsRun from kind boxes.now result }
 {
     boxes.partition_point(|link| link.from == from && link.kind == kind)
 }

@@ -1,4 +1,3 @@
-use Rattle.std.proofs.Common.{◌≡◌}
 use Rattle.hf_read.proofs.GatheredLaws.{begins}
 use Rattle.hf_read.proofs.references.first_kind.Goals as goal
 

@@ -1,4 +1,4 @@
-use Rattle.std.proofs.Common.{arith, ◌≡◌, ◌≤◌, ℕ, List, length, map, ap, ◌∙◌}
+use Rattle.std.proofs.Common.{arith, ◌≤◌, ℕ, List, length, map, ap, ◌∙◌}
 use Rattle.std.proofs.lemmas.List.{take_all}
 use Rattle.hf_read.specs.Kept.{kept_refs}
 use Rattle.hf_read.specs.Gathered.{seen}

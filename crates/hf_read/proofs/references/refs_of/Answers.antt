@@ -1,4 +1,4 @@
-use Rattle.std.proofs.Common.{arith, ◌≡◌, ◌≤◌, ◌<◌, ◌++◌, List, length, drop, ap, sym, subst, ◌∙◌}
+use Rattle.std.proofs.Common.{arith, ◌≡◌, ◌≤◌, ◌++◌, List, length, ap, sym, subst, ◌∙◌}
 use Rattle.std.specs.List.{AllByRecursion}
 use Rattle.std.proofs.lemmas.List.{length-drop, take_rest}
 use Rattle.hf_base.specs.declared.loc.RefBox.{RefBox}
@@ -26,7 +26,7 @@ loop-kind-preserved c =
     let rest = c.loop-kind.rest.now in
     let len = c.run_len-len.result in
     let whole = kept_refs ids (seen c.args.boxes.now) from in
-    let more = run_more ids from c.in-Some.kind rest len c.loop-kind.refs c.push_list.new.refs whole c.in_ok-to.to c.loop-kind.invariant.0 c.run_len-len.ensures.run c.run_len-len.ensures.later c.in_ok-to.ensures c.in_ok-push_list.ensures in
+    let more = run_more ids from c.in-Some.kind rest len c.loop-kind.refs c.push_list.new.refs whole c.in_ok-to.to c.loop-kind.invariant.0 c.run_len-len.ensures c.in_ok-to.ensures c.in_ok-push_list.ensures in
     subst (λ (l : List (Bor RefBox)). (c.push_list.new.refs ++ kept_refs ids (seen l) from ≡ whole) × AreInOrder l × AllByRecursion (λ (b : RefBox). from ≤ b.from) (seen l) × (length l ≤ length c.args.boxes.now)) (sym (take_rest rest len))
       (more, in_order_from len rest c.loop-kind.invariant.1, reached_from from len rest c.loop-kind.invariant.2, (omega (arith, length-drop len rest, c.loop-kind.invariant.3)))
 

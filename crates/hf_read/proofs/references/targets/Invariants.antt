@@ -1,4 +1,4 @@
-use Rattle.std.proofs.Common.{◌≡◌, ◌++◌, filter, take}
+use Rattle.std.proofs.Common.{◌≡◌, take}
 use Rattle.hf_read.specs.Gathered.{seen}
 use Rattle.hf_read.proofs.RunLaws.{led_to}
 use Rattle.hf_read.proofs.references.targets.Given as goal
