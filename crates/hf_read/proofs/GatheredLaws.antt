@@ -1,5 +1,6 @@
 -- Boxes that are sorted by items and types.
-use Rattle.std.proofs.Common.{◌≡◌, ◌<◌, ◌≤◌, arith, length, take, drop, get_or, ℕ, zero, suc, Bool, true, false, not, ◌&&◌, eqb, ltb, List, [], ◌∷◌, ◌++◌, map, refl, sym, ap, subst, ◌∙◌, inl, inr, ◌⊎◌, Some}
+use Rattle.std.proofs.Common.{◌≡◌, ◌<◌, ◌≤◌, arith, length, take, drop, get_or, ℕ, zero, suc, Bool, true, false, not, ◌&&◌, eqb, ltb, List, [], ◌∷◌, ◌++◌}
+use Rattle.std.proofs.Common.{map, refl, sym, ap, subst, ◌∙◌, inl, inr, ◌⊎◌, Some}
 use Rattle.std.specs.List.{AllByRecursion, AllWithin, filter, flat_map, slice_get}
 use Rattle.std.specs.List.Sorted.{IsPartitionedBy, IsPartitionPoint, IsNonDecreasingBy, IsStableByKey, ties}
 use Rattle.std.specs.Cmp.{IsTotalOrder, IsStrictWeakOrder}
@@ -43,7 +44,8 @@ comes_first a b = is_lt (order (key_of a.now) (key_of b.now))
 ranked : IsStrictWeakOrder comes_first
 ranked = ranks_by order_total (λ (b : Bor RefBox). key_of b.now)
 
-far : (boxes : List (Bor RefBox)) → AreInOrder boxes → (i j : ℕ) (d : Bor RefBox) → i ≤ j → j < length boxes → comes_first (get_or boxes j d) (get_or boxes i d) ≡ false
+far : (boxes : List (Bor RefBox)) → AreInOrder boxes → (i j : ℕ) (d : Bor RefBox) → i ≤ j → j < length boxes
+    → comes_first (get_or boxes j d) (get_or boxes i d) ≡ false
 far boxes up i j d le less = sorted_far comes_first ranked boxes up i j d le less
 
 -- how two places compare
@@ -89,7 +91,8 @@ other_place : (from : ℕ) (kind : FourCc) (b : RefBox) → (order (from, kind) 
 other_place from kind b apart = false_from_ne_true (is_of from kind b) (λ own.
     apart (ap (λ (k : ℕ × FourCc). order (from, kind) k) (its_place from kind b own) ∙ tied_itself order_total (from, kind)))
 
-tied : (from : ℕ) (kind : FourCc) (b : RefBox) → (not (is_lt (order (from, kind) (key_of b))) && not (is_lt (order (key_of b) (from, kind)))) ≡ is_of from kind b
+tied : (from : ℕ) (kind : FourCc) (b : RefBox)
+    → (not (is_lt (order (from, kind) (key_of b))) && not (is_lt (order (key_of b) (from, kind)))) ≡ is_of from kind b
 tied from kind b = elim (compared (from, kind) (key_of b)) [
   | Before e f ↦ let no = other_place from kind b (λ t. (let both : Less ≡ Equal = sym e ∙ t in cc)) in rw (e, no) refl
   | Same e f ↦ let yes = one_place from kind b e in rw (e, f, yes) refl
@@ -101,7 +104,8 @@ tied from kind b = elim (compared (from, kind) (key_of b)) [
 bare : ℕ → FourCc → Bor RefBox
 bare from kind = record { ref_ptr = (0, 0); now = record { kind = kind; from = from; to = [] } }
 
-seen_of : (from : ℕ) (kind : FourCc) (boxes : List (Bor RefBox)) → filter (is_of from kind) (seen boxes) ≡ seen (filter (ties comes_first (bare from kind)) boxes)
+seen_of : (from : ℕ) (kind : FourCc) (boxes : List (Bor RefBox))
+    → filter (is_of from kind) (seen boxes) ≡ seen (filter (ties comes_first (bare from kind)) boxes)
 unfolding bare
 seen_of from kind [] = refl
 seen_of from kind (b ∷ bs) =
@@ -120,12 +124,14 @@ seen_of from kind (b ∷ bs) =
     ]
 
 -- a stable sort keeps those of one item and type in their order
-pub stays : (from : ℕ) (kind : FourCc) (old new : List (Bor RefBox)) → IsStableByKey (λ (b : Bor RefBox). key_of b.now) order old new → filter (is_of from kind) (seen new) ≡ filter (is_of from kind) (seen old)
+pub stays : (from : ℕ) (kind : FourCc) (old new : List (Bor RefBox)) → IsStableByKey (λ (b : Bor RefBox). key_of b.now) order old new
+    → filter (is_of from kind) (seen new) ≡ filter (is_of from kind) (seen old)
 stays from kind old new stable = seen_of from kind new ∙ ap seen (stable (bare from kind)) ∙ sym (seen_of from kind old)
 
 -- ---- what an item keeps of them
 
-joined_is : (keep : ℕ → Bool) (kind : FourCc) (from : ℕ) (bs : List RefBox) → joined keep kind from bs ≡ flat_map (λ (b : RefBox). filter keep b.to) (filter (is_of from kind) bs)
+joined_is : (keep : ℕ → Bool) (kind : FourCc) (from : ℕ) (bs : List RefBox)
+    → joined keep kind from bs ≡ flat_map (λ (b : RefBox). filter keep b.to) (filter (is_of from kind) bs)
 joined_is keep kind from [] = refl
 joined_is keep kind from (b ∷ bs) = elim (cases_Bool (is_of from kind b)) [
   | inl t ↦ rw t (ap (λ (l : List ℕ). filter keep b.to ++ l) (joined_is keep kind from bs))
@@ -133,25 +139,31 @@ joined_is keep kind from (b ∷ bs) = elim (cases_Bool (is_of from kind b)) [
 ]
 
 -- boxes of which those of each item and type are the same give an item the same
-pub same_kept : (ids : List ℕ) (from : ℕ) (bs links : List RefBox) → ((from : ℕ) (kind : FourCc) → filter (is_of from kind) bs ≡ filter (is_of from kind) links) → kept_refs ids bs from ≡ kept_refs ids links from
+pub same_kept : (ids : List ℕ) (from : ℕ) (bs links : List RefBox)
+    → ((from : ℕ) (kind : FourCc) → filter (is_of from kind) bs ≡ filter (is_of from kind) links) → kept_refs ids bs from ≡ kept_refs ids links from
 same_kept ids from bs links same =
     let keep : ℕ → Bool = λ to. has_id to ids in
     let joins : (kind : FourCc) → joined keep kind from bs ≡ joined keep kind from links = λ kind.
-        joined_is keep kind from bs ∙ ap (λ (l : List RefBox). flat_map (λ (b : RefBox). filter keep b.to) l) (same from kind) ∙ sym (joined_is keep kind from links) in
+    joined_is keep kind from bs ∙ ap (λ (l : List RefBox). flat_map (λ (b : RefBox). filter keep b.to) l) (same from kind)
+    ∙ sym (joined_is keep kind from links) in
     let k = refs_are_kept ids bs from in
     let moved : (b : RefBox) → IsIn b links → IsIn b bs = λ b h.
-        let own : is_of b.from b.kind b ≡ true = (let f = eq-eqb b.from b.from refl in let s = same_kind b.kind b.kind refl in rw (f, s) refl) in
-        in_filter (is_of b.from b.kind) bs b (subst (λ (l : List RefBox). IsIn b l) (sym (same b.from b.kind)) (passes (is_of b.from b.kind) links b h own)) in
+    let own : is_of b.from b.kind b ≡ true = (let f = eq-eqb b.from b.from refl in let s = same_kind b.kind b.kind refl in rw (f, s) refl) in
+    in_filter (is_of b.from b.kind) bs b
+    (subst (λ (l : List RefBox). IsIn b l) (sym (same b.from b.kind)) (passes (is_of b.from b.kind) links b h own)) in
     let refs = kept_refs ids bs from in
     let there : KeepsRefs keep links from refs = record {
       rise = k.rise;
-      each = all_from (IsKept keep links from) refs (λ r h. (let x = in_all (IsKept keep bs from) refs k.each r h in record { not_iloc = x.not_iloc; some = x.some; to = x.to ∙ joins r.kind }));
-      all = all_from (λ (b : RefBox). b.from ≡ from → (b.kind ≡ ILOC) ⊎ ((joined keep b.kind from links ≡ []) ⊎ IsIn b.kind (kinds_of refs))) links (λ b h own.
-        elim (in_all (λ (b : RefBox). b.from ≡ from → (b.kind ≡ ILOC) ⊎ ((joined keep b.kind from bs ≡ []) ⊎ IsIn b.kind (kinds_of refs))) bs k.all b (moved b h) own) [
-          | inl e ↦ inl e
-          | inr (inl none) ↦ inr (inl (sym (joins b.kind) ∙ none))
-          | inr (inr in_refs) ↦ inr (inr in_refs)
-        ]);
+      each = all_from (IsKept keep links from) refs
+          (λ r h. (let x = in_all (IsKept keep bs from) refs k.each r h in record { not_iloc = x.not_iloc; some = x.some; to = x.to ∙ joins r.kind }));
+      all = all_from (λ (b : RefBox). b.from ≡ from → (b.kind ≡ ILOC) ⊎ ((joined keep b.kind from links ≡ []) ⊎ IsIn b.kind (kinds_of refs))) links
+          (λ b h own.
+          elim (in_all (λ (b : RefBox). b.from ≡ from → (b.kind ≡ ILOC) ⊎ ((joined keep b.kind from bs ≡ []) ⊎ IsIn b.kind (kinds_of refs))) bs k.all b
+          (moved b h) own) [
+            | inl e ↦ inl e
+            | inr (inl none) ↦ inr (inl (sym (joins b.kind) ∙ none))
+            | inr (inr in_refs) ↦ inr (inr in_refs)
+          ]);
     } in
     references_once keep links from refs (kept_refs ids links from) there (refs_are_kept ids links from)
 
@@ -164,12 +176,14 @@ SplitsAt test boxes i = IsPartitionPoint (λ (b : Bor RefBox). test b ≡ true) 
 pub in_order_from : (n : ℕ) (boxes : List (Bor RefBox)) → AreInOrder boxes → AreInOrder (drop n boxes)
 in_order_from zero boxes up = up
 in_order_from (suc n) [] up = up
-in_order_from (suc n) (b ∷ bs) up = in_order_from n bs (λ k d low high. simp unary_clauses (simp unary_clauses at (up (suc k) d (omega arith) (omega (arith, high)))))
+in_order_from (suc n) (b ∷ bs) up =
+    in_order_from n bs (λ k d low high. simp unary_clauses (simp unary_clauses at (up (suc k) d (omega arith) (omega (arith, high)))))
 
 front_all : {A : Type 0} (P : A → Type 0) (xs : List A) (i : ℕ) → i ≤ length xs → AllWithin P xs 0 i → AllByRecursion P (take i xs)
 front_all P xs zero le all = tt
 front_all P [] (suc i) le all = absurd (omega (arith, le))
-front_all P (x ∷ xs) (suc i) le all = (all 0 x (omega arith) (omega arith), front_all P xs i (omega (arith, le)) (λ k d low high. all (suc k) d (omega arith) (omega (arith, high))))
+front_all P (x ∷ xs) (suc i) le all =
+    (all 0 x (omega arith) (omega arith), front_all P xs i (omega (arith, le)) (λ k d low high. all (suc k) d (omega arith) (omega (arith, high))))
 
 back_all : {A : Type 0} (P : A → Type 0) (xs : List A) (i : ℕ) → AllWithin P xs i (length xs) → AllByRecursion P (drop i xs)
 back_all P [] zero all = tt
@@ -189,44 +203,56 @@ split_seen (suc i) (b ∷ bs) = ap (λ (l : List RefBox). b.now ∷ l) (split_se
 -- ---- a run of boxes
 
 -- the first one has this place
-first_place : (from : ℕ) (kind : FourCc) (boxes : List (Bor RefBox)) (d : Bor RefBox) → BeginsWith from kind (seen boxes) → key_of (get_or boxes 0 d).now ≡ (from, kind)
+first_place : (from : ℕ) (kind : FourCc) (boxes : List (Bor RefBox)) (d : Bor RefBox) → BeginsWith from kind (seen boxes)
+    → key_of (get_or boxes 0 d).now ≡ (from, kind)
 first_place from kind [] d h = absurd h
 first_place from kind (b ∷ bs) d own = its_place from kind b.now own
 
-not_before : (from : ℕ) (kind : FourCc) (boxes : List (Bor RefBox)) → AreInOrder boxes → BeginsWith from kind (seen boxes) → (k : ℕ) (d : Bor RefBox) → k < length boxes → is_lt (order (key_of (get_or boxes k d).now) (from, kind)) ≡ false
+not_before : (from : ℕ) (kind : FourCc) (boxes : List (Bor RefBox)) → AreInOrder boxes → BeginsWith from kind (seen boxes) → (k : ℕ) (d : Bor RefBox)
+    → k < length boxes → is_lt (order (key_of (get_or boxes k d).now) (from, kind)) ≡ false
 not_before from kind boxes up own k d less =
-    ap (λ (p : ℕ × FourCc). is_lt (order (key_of (get_or boxes k d).now) p)) (sym (first_place from kind boxes d own)) ∙ far boxes up 0 k d (omega arith) less
+    ap (λ (p : ℕ × FourCc). is_lt (order (key_of (get_or boxes k d).now) p)) (sym (first_place from kind boxes d own))
+    ∙ far boxes up 0 k d (omega arith) less
 
 -- those of the first one's item and type stand in front
-pub run_is_front : (from : ℕ) (kind : FourCc) (boxes : List (Bor RefBox)) → AreInOrder boxes → BeginsWith from kind (seen boxes) → IsPartitionedBy (λ (b : Bor RefBox). is_of from kind b.now) boxes
+pub run_is_front : (from : ℕ) (kind : FourCc) (boxes : List (Bor RefBox)) → AreInOrder boxes → BeginsWith from kind (seen boxes)
+    → IsPartitionedBy (λ (b : Bor RefBox). is_of from kind b.now) boxes
 run_is_front from kind boxes up own i j d le less last =
     let x = get_or boxes i d in
     let low = not_before from kind boxes up own i d (omega (arith, le, less)) in
-    let high : is_lt (order (from, kind) (key_of x.now)) ≡ false = ap (λ (p : ℕ × FourCc). is_lt (order p (key_of x.now))) (sym (its_place from kind (get_or boxes j d).now last)) ∙ far boxes up i j d le less in
+    let high : is_lt (order (from, kind) (key_of x.now)) ≡ false =
+    ap (λ (p : ℕ × FourCc). is_lt (order p (key_of x.now))) (sym (its_place from kind (get_or boxes j d).now last)) ∙ far boxes up i j d le less in
     sym (tied from kind x.now) ∙ (rw (high, low) refl)
 
 run_own : (from : ℕ) (kind : FourCc) (boxes : List (Bor RefBox)) (i : ℕ) → i ≤ length boxes → SplitsAt (λ (b : Bor RefBox). is_of from kind b.now) boxes i
     → AreOf from kind (seen (take i boxes))
-run_own from kind boxes i le point = all_seen (λ (b : RefBox). is_of from kind b ≡ true) (take i boxes) (front_all (λ (b : Bor RefBox). is_of from kind b.now ≡ true) boxes i le point.0)
+run_own from kind boxes i le point =
+    all_seen (λ (b : RefBox). is_of from kind b ≡ true) (take i boxes) (front_all (λ (b : Bor RefBox). is_of from kind b.now ≡ true) boxes i le point.0)
 
-after_run : (from : ℕ) (kind : FourCc) (b : RefBox) → is_of from kind b ≡ false → is_lt (order (key_of b) (from, kind)) ≡ false → is_later from kind b ≡ true
+after_run : (from : ℕ) (kind : FourCc) (b : RefBox) → is_of from kind b ≡ false → is_lt (order (key_of b) (from, kind)) ≡ false
+    → is_later from kind b ≡ true
 after_run from kind b other low = elim (compared (from, kind) (key_of b)) [
   | Before e f ↦ ap is_lt e
   | Same e f ↦ (let yes = one_place from kind b e in let both : true ≡ false = sym yes ∙ other in absurd cc)
   | After e f ↦ (let both : true ≡ false = sym (ap is_lt f) ∙ low in absurd cc)
 ]
 
-run_later : (from : ℕ) (kind : FourCc) (boxes : List (Bor RefBox)) (i : ℕ) → AreInOrder boxes → BeginsWith from kind (seen boxes) → SplitsAt (λ (b : Bor RefBox). is_of from kind b.now) boxes i
+run_later : (from : ℕ) (kind : FourCc) (boxes : List (Bor RefBox)) (i : ℕ) → AreInOrder boxes → BeginsWith from kind (seen boxes)
+    → SplitsAt (λ (b : Bor RefBox). is_of from kind b.now) boxes i
     → AreLater from kind (seen (drop i boxes))
-run_later from kind boxes i up own point = all_seen (λ (b : RefBox). is_later from kind b ≡ true) (drop i boxes) (back_all (λ (b : Bor RefBox). is_later from kind b.now ≡ true) boxes i
+run_later from kind boxes i up own point =
+    all_seen (λ (b : RefBox). is_later from kind b ≡ true) (drop i boxes) (back_all (λ (b : Bor RefBox). is_later from kind b.now ≡ true) boxes i
     (λ k d low high. after_run from kind (get_or boxes k d).now (point.1 k d low high) (not_before from kind boxes up own k d high)))
 
-run_some : (from : ℕ) (kind : FourCc) (boxes : List (Bor RefBox)) (i : ℕ) → BeginsWith from kind (seen boxes) → SplitsAt (λ (b : Bor RefBox). is_of from kind b.now) boxes i → 0 < i
+run_some : (from : ℕ) (kind : FourCc) (boxes : List (Bor RefBox)) (i : ℕ) → BeginsWith from kind (seen boxes)
+    → SplitsAt (λ (b : Bor RefBox). is_of from kind b.now) boxes i → 0 < i
 run_some from kind [] i own point = absurd own
-run_some from kind (b ∷ bs) zero own point = absurd (let f : is_of from kind b.now ≡ false = point.1 0 b (omega arith) (omega arith) in let both : true ≡ false = sym own ∙ f in cc)
+run_some from kind (b ∷ bs) zero own point =
+    absurd (let f : is_of from kind b.now ≡ false = point.1 0 b (omega arith) (omega arith) in let both : true ≡ false = sym own ∙ f in cc)
 run_some from kind (b ∷ bs) (suc i) own point = omega arith
 
-pub run_ends : (from : ℕ) (kind : FourCc) (boxes : List (Bor RefBox)) (i : ℕ) → AreInOrder boxes → BeginsWith from kind (seen boxes) → i ≤ length boxes → SplitsAt (λ (b : Bor RefBox). is_of from kind b.now) boxes i → IsRun from kind boxes i
+pub run_ends : (from : ℕ) (kind : FourCc) (boxes : List (Bor RefBox)) (i : ℕ) → AreInOrder boxes → BeginsWith from kind (seen boxes) → i ≤ length boxes
+    → SplitsAt (λ (b : Bor RefBox). is_of from kind b.now) boxes i → IsRun from kind boxes i
 run_ends from kind boxes i up own within point = record {
   within = within;
   some = run_some from kind boxes i own point;
@@ -236,7 +262,8 @@ run_ends from kind boxes i up own within point = record {
 
 -- ---- the first box
 
-pub begins : (from : ℕ) (boxes : List (Bor RefBox)) (first : Bor RefBox) → Some first ≡ slice_get boxes 0 → first.now.from ≡ from → BeginsWith from first.now.kind (seen boxes)
+pub begins : (from : ℕ) (boxes : List (Bor RefBox)) (first : Bor RefBox) → Some first ≡ slice_get boxes 0 → first.now.from ≡ from
+    → BeginsWith from first.now.kind (seen boxes)
 begins from [] first is own = absurd cc
 begins from (b ∷ bs) first is own =
     let same = same_kind first.now.kind first.now.kind refl in
@@ -253,23 +280,29 @@ below_number x y lt = let t = lt-ltb x y lt in rw t refl
 
 at_most : (a b : ℕ × FourCc) → is_lt (order b a) ≡ false → a.0 ≤ b.0
 at_most a b h = elim (cases_lt b.0 a.0) [
-  | inl lt ↦ (let first = below_number b.0 a.0 lt in let both : true ≡ false = sym (ap (λ (o : Ordering). is_lt (ordering_then o (slice_cmp nat_cmp b.1.0 a.1.0))) first) ∙ h in absurd cc)
+  | inl lt ↦ (let first = below_number b.0 a.0 lt in let both : true ≡ false =
+      sym (ap (λ (o : Ordering). is_lt (ordering_then o (slice_cmp nat_cmp b.1.0 a.1.0))) first) ∙ h in absurd cc)
   | inr ge ↦ ge
 ]
 
-later_items : (from : ℕ) (boxes : List (Bor RefBox)) → AreInOrder boxes → AllByRecursion (λ (b : RefBox). from ≤ b.from) (seen boxes) → BeginsElsewhere from (seen boxes) → AllByRecursion (λ (b : Bor RefBox). eqb b.now.from from ≡ false) boxes
+later_items : (from : ℕ) (boxes : List (Bor RefBox)) → AreInOrder boxes → AllByRecursion (λ (b : RefBox). from ≤ b.from) (seen boxes)
+    → BeginsElsewhere from (seen boxes) → AllByRecursion (λ (b : Bor RefBox). eqb b.now.from from ≡ false) boxes
 later_items from [] up reached other = tt
 later_items from (b ∷ bs) up reached other =
     let apart : b.now.from ≡ from → ⊥ = λ e. (let t = eq-eqb b.now.from from e in let both : true ≡ false = sym t ∙ other in cc) in
-    let less : from < b.now.from = omega (arith, reached.0, apart) in
-    (other, back_all (λ (x : Bor RefBox). eqb x.now.from from ≡ false) (b ∷ bs) 1 (λ k d low high.
-        let x = get_or (b ∷ bs) k d in
-        let le = at_most (key_of b.now) (key_of x.now) (far (b ∷ bs) up 0 k d (omega arith) high) in
-        false_from_ne_true (eqb x.now.from from) (λ t. let e = eqb-true x.now.from from t in omega (arith, le, less, e))))
+    let less : from < b.now.from = omega (arith, reached.0, apart) in (
+      other,
+      back_all (λ (x : Bor RefBox). eqb x.now.from from ≡ false) (b ∷ bs) 1 (λ k d low high.
+          let x = get_or (b ∷ bs) k d in
+          let le = at_most (key_of b.now) (key_of x.now) (far (b ∷ bs) up 0 k d (omega arith) high) in
+          false_from_ne_true (eqb x.now.from from) (λ t. let e = eqb-true x.now.from from t in omega (arith, le, less, e))),
+    )
 
 -- an item gets nothing of boxes of later items
-pub nothing_left : (ids : List ℕ) (from : ℕ) (boxes : List (Bor RefBox)) → AreInOrder boxes → AllByRecursion (λ (b : RefBox). from ≤ b.from) (seen boxes) → BeginsElsewhere from (seen boxes) → kept_refs ids (seen boxes) from ≡ []
-nothing_left ids from boxes up reached other = none_kept ids from (seen boxes) (all_seen (λ (b : RefBox). eqb b.from from ≡ false) boxes (later_items from boxes up reached other))
+pub nothing_left : (ids : List ℕ) (from : ℕ) (boxes : List (Bor RefBox)) → AreInOrder boxes → AllByRecursion (λ (b : RefBox). from ≤ b.from) (seen boxes)
+    → BeginsElsewhere from (seen boxes) → kept_refs ids (seen boxes) from ≡ []
+nothing_left ids from boxes up reached other =
+    none_kept ids from (seen boxes) (all_seen (λ (b : RefBox). eqb b.from from ≡ false) boxes (later_items from boxes up reached other))
 
 -- ---- the boxes of earlier items
 
@@ -279,42 +312,54 @@ items_rise boxes up i j d le less = at_most (key_of (get_or boxes i d).now) (key
 pub earlier_are_front : (from : ℕ) (boxes : List (Bor RefBox)) → AreInOrder boxes → IsPartitionedBy (λ (b : Bor RefBox). ltb b.now.from from) boxes
 earlier_are_front from boxes up = IsPartitionedBy-ltb (λ (b : Bor RefBox). b.now.from) boxes from (items_rise boxes up)
 
-pub item_reached : (from : ℕ) (boxes : List (Bor RefBox)) (i : ℕ) → SplitsAt (λ (b : Bor RefBox). ltb b.now.from from) boxes i → AllByRecursion (λ (b : RefBox). from ≤ b.from) (seen (drop i boxes))
-item_reached from boxes i point = all_seen (λ (b : RefBox). from ≤ b.from) (drop i boxes) (back_all (λ (b : Bor RefBox). from ≤ b.now.from) boxes i (λ k d low high. ltb-false (get_or boxes k d).now.from from (point.1 k d low high)))
+pub item_reached : (from : ℕ) (boxes : List (Bor RefBox)) (i : ℕ) → SplitsAt (λ (b : Bor RefBox). ltb b.now.from from) boxes i
+    → AllByRecursion (λ (b : RefBox). from ≤ b.from) (seen (drop i boxes))
+item_reached from boxes i point =
+    all_seen (λ (b : RefBox). from ≤ b.from) (drop i boxes)
+    (back_all (λ (b : Bor RefBox). from ≤ b.now.from) boxes i (λ k d low high. ltb-false (get_or boxes k d).now.from from (point.1 k d low high)))
 
 pub earlier_are_none : (from : ℕ) (boxes : List (Bor RefBox)) (i : ℕ) → i ≤ length boxes → SplitsAt (λ (b : Bor RefBox). ltb b.now.from from) boxes i
     → (ids : List ℕ) → kept_refs ids (seen (drop i boxes)) from ≡ kept_refs ids (seen boxes) from
 earlier_are_none from boxes i le point ids =
     let unkept : (b : RefBox) → ltb b.from from ≡ true → is_kept_link from b ≡ false = λ b t.
-        let less = ltb-true b.from from t in
-        let other : eqb b.from from ≡ false = false_from_ne_true (eqb b.from from) (λ own. let e = eqb-true b.from from own in omega (arith, less, e)) in
-        rw other refl in
+    let less = ltb-true b.from from t in
+    let other : eqb b.from from ≡ false = false_from_ne_true (eqb b.from from) (λ own. let e = eqb-true b.from from own in omega (arith, less, e)) in
+    rw other refl in
     let front : AllByRecursion (λ (b : RefBox). is_kept_link from b ≡ false) (seen (take i boxes)) =
-    all_seen (λ (b : RefBox). is_kept_link from b ≡ false) (take i boxes) (front_all (λ (b : Bor RefBox). is_kept_link from b.now ≡ false) boxes i le (λ k d low high. unkept (get_or boxes k d).now (point.0 k d low high))) in
+    all_seen (λ (b : RefBox). is_kept_link from b ≡ false) (take i boxes)
+    (front_all (λ (b : Bor RefBox). is_kept_link from b.now ≡ false) boxes i le (λ k d low high. unkept (get_or boxes k d).now (point.0 k d low high))) in
     sym (ap (λ (l : List RefBox). kept_refs ids l from) (split_seen i boxes) ∙ passed_over ids from (seen (take i boxes)) (seen (drop i boxes)) front)
 
 -- ---- one run more
 
-pub reached_from : (from n : ℕ) (boxes : List (Bor RefBox)) → AllByRecursion (λ (b : RefBox). from ≤ b.from) (seen boxes) → AllByRecursion (λ (b : RefBox). from ≤ b.from) (seen (drop n boxes))
+pub reached_from : (from n : ℕ) (boxes : List (Bor RefBox)) → AllByRecursion (λ (b : RefBox). from ≤ b.from) (seen boxes)
+    → AllByRecursion (λ (b : RefBox). from ≤ b.from) (seen (drop n boxes))
 reached_from from zero boxes all = all
 reached_from from (suc n) [] all = all
 reached_from from (suc n) (b ∷ bs) all = reached_from from n bs all.1
 
-pub run_more : (ids : List ℕ) (from : ℕ) (kind : FourCc) (rest : List (Bor RefBox)) (len : ℕ) (refs more whole : List RefList) (to : List ℕ) → refs ++ kept_refs ids (seen rest) from ≡ whole
-    → IsRun from kind rest len → to ≡ led_to ids (seen (take len rest)) → more ≡ refs ++ list_if_any kind to → more ++ kept_refs ids (seen (drop len rest)) from ≡ whole
+pub run_more : (ids : List ℕ) (from : ℕ) (kind : FourCc) (rest : List (Bor RefBox)) (len : ℕ) (refs more whole : List RefList) (to : List ℕ)
+    → refs ++ kept_refs ids (seen rest) from ≡ whole
+    → IsRun from kind rest len → to ≡ led_to ids (seen (take len rest)) → more ≡ refs ++ list_if_any kind to
+    → more ++ kept_refs ids (seen (drop len rest)) from ≡ whole
 run_more ids from kind rest len refs more whole to so_far run is pushed =
     let left : List RefList = kept_refs ids (seen (drop len rest)) from in
     let step : kept_refs ids (seen rest) from ≡ list_if_any kind to ++ left =
-    ap (λ (l : List RefBox). kept_refs ids l from) (split_seen len rest) ∙ run_step ids from kind (seen (take len rest)) (seen (drop len rest)) run.own run.later ∙ ap (λ (l : List ℕ). list_if_any kind l ++ left) (sym is) in
+    ap (λ (l : List RefBox). kept_refs ids l from) (split_seen len rest)
+    ∙ run_step ids from kind (seen (take len rest)) (seen (drop len rest)) run.own run.later ∙ ap (λ (l : List ℕ). list_if_any kind l ++ left) (sym is) in
     ap (λ (l : List RefList). l ++ left) pushed ∙ append_assoc refs (list_if_any kind to) left ∙ ap (λ (l : List RefList). refs ++ l) (sym step) ∙ so_far
 
-pub no_more : (ids : List ℕ) (from : ℕ) (rest : List (Bor RefBox)) (refs whole : List RefList) → refs ++ kept_refs ids (seen rest) from ≡ whole → AreInOrder rest → AllByRecursion (λ (b : RefBox). from ≤ b.from) (seen rest) → BeginsElsewhere from (seen rest) → refs ≡ whole
+pub no_more : (ids : List ℕ) (from : ℕ) (rest : List (Bor RefBox)) (refs whole : List RefList) → refs ++ kept_refs ids (seen rest) from ≡ whole
+    → AreInOrder rest → AllByRecursion (λ (b : RefBox). from ≤ b.from) (seen rest) → BeginsElsewhere from (seen rest) → refs ≡ whole
 no_more ids from rest refs whole so_far up reached other =
     sym (append-nil refs) ∙ ap (λ (l : List RefList). refs ++ l) (sym (nothing_left ids from rest up reached other)) ∙ so_far
 
 -- sorted boxes give each item what the boxes of the file give it
-pub all_kept : (ids : List ℕ) (boxes : List (Bor RefBox)) (links : List RefBox) → ((from : ℕ) (kind : FourCc) → filter (is_of from kind) (seen boxes) ≡ filter (is_of from kind) links) → (some : List ℕ) → map (kept_refs ids (seen boxes)) some ≡ map (kept_refs ids links) some
+pub all_kept : (ids : List ℕ) (boxes : List (Bor RefBox)) (links : List RefBox)
+    → ((from : ℕ) (kind : FourCc) → filter (is_of from kind) (seen boxes) ≡ filter (is_of from kind) links) → (some : List ℕ)
+    → map (kept_refs ids (seen boxes)) some ≡ map (kept_refs ids links) some
 all_kept ids boxes links same [] = refl
 all_kept ids boxes links same (id ∷ some) =
     let here = same_kept ids id (seen boxes) links same in
-    ap (λ (r : List RefList). r ∷ map (kept_refs ids (seen boxes)) some) here ∙ ap (λ (l : List (List RefList)). kept_refs ids links id ∷ l) (all_kept ids boxes links same some)
+    ap (λ (r : List RefList). r ∷ map (kept_refs ids (seen boxes)) some) here
+    ∙ ap (λ (l : List (List RefList)). kept_refs ids links id ∷ l) (all_kept ids boxes links same some)

@@ -1,6 +1,6 @@
 //! The references that a store keeps of the boxes of `iref`.
 
-ghost use Rattle.std.specs.Prelude.{◌≡◌, ◌<◌, ◌≤◌, ◌++◌, ℕ, List, true, map, filter, flat_map, length, take, drop, IfOk, OnOk, IfNone, IfSome};
+ghost use Rattle.std.specs.Prelude.{◌≡◌, ◌<◌, ◌≤◌, ◌++◌, ℕ, List, map, filter, flat_map, length, IfOk, OnOk, IfNone, IfSome};
 ghost use Rattle.std.specs.List.{AllByRecursion};
 ghost use Rattle.hf_base.specs.Entries.{has_id};
 ghost use Rattle.hf_base.specs.Members.{Rises};
@@ -15,12 +15,13 @@ use hf_base::{FourCc, Ids, NoMemory, RefBox};
 use hf_store::{RefList, Refs};
 use std::alloc::Global;
 
-/// The boxes by rising items and types; those of one item and type stay in file order.
+/// The boxes by rising items and types; the sort is stable, so those of one item and type stay in file
+/// order.
 fn in_order<'a>(alloc: Global, links: &'a [RefBox]) -> Result<Vec<&'a RefBox>, NoMemory>
     ensures sorted { IfOk result (λ boxes. AreInOrder boxes.items) }
     ensures same { (from : ℕ) (kind : Kind) → IfOk result (λ boxes. filter (is_of from kind) (seen boxes.items) ≡ filter (is_of from kind) links.now) }
 {
-    let mut boxes: Vec<&'a RefBox> = links.iter().collect(alloc)?;
+    let mut boxes: Vec<&RefBox> = links.iter().collect(alloc)?;
     boxes.sort_by_key(|link| (link.from, link.kind))?;
     Ok(boxes)
 }
@@ -48,7 +49,7 @@ fn first_kind(boxes: &[&RefBox], from: u32) -> Option<FourCc>
     Some(first.kind)
 }
 
-/// How many boxes in order are of the first one's item and type.
+/// How many of these boxes are of the item and type of the first one.
 fn run_len(boxes: &[&RefBox], from: u32, kind: FourCc) -> usize
     requires sorted { AreInOrder boxes.now }
     requires first { BeginsWith from kind (seen boxes.now) }
@@ -92,13 +93,8 @@ fn push_list(refs: &mut Refs, kind: FourCc, to: Ids) -> Result<(), NoMemory>
     refs.push(RefList { kind, to })
 }
 
-/// The lists of an item.
-fn refs_of<'a, 'b>(
-    alloc: Global,
-    ids: &[u32],
-    boxes: &'a [&'b RefBox],
-    from: u32,
-) -> Result<Refs, NoMemory>
+/// The lists of an item, out of boxes in order.
+fn refs_of(alloc: Global, ids: &[u32], boxes: &[&RefBox], from: u32) -> Result<Refs, NoMemory>
     requires rise { Rises ◌<◌ ids.now }
     requires sorted { AreInOrder boxes.now }
     ensures { IfOk result (λ refs. refs ≡ kept ids.now (seen boxes.now) from) }
@@ -114,9 +110,10 @@ fn refs_of<'a, 'b>(
     Ok(refs)
 }
 
-/// The references that a store keeps for each of the items with these ids, in their order, of the boxes
-/// of `iref` in file order: of each type but `iloc` the ids of items, by rising type. `NoMemory` comes where memory
-/// was refused. Which references are kept is this project's own rule.
+/// The references that a store keeps for each of the items with these ids, in the order of the ids, out
+/// of the boxes of `iref` in file order: a list for each type but `iloc` that leads to an item, by rising
+/// type, with the ids of items alone. `NoMemory` comes where memory was refused. Which references are
+/// kept is this project's own rule.
 pub fn kept_refs(alloc: Global, ids: &[u32], links: &[RefBox]) -> Result<Vec<Refs>, NoMemory>
     requires { Rises ◌<◌ ids.now }
     ensures { IfOk result (λ lists. lists.items ≡ map (kept ids.now links.now) ids.now) }

@@ -13,12 +13,18 @@ pub returns-clause-reached : goal.returns-clause-reached
 returns-clause-reached c =
     let from = c.args.from in
     let boxes = c.args.boxes.now in
-    let point = IsPartitionPoint-from_clause (λ (b : Bor RefBox). ltb b.now.from from) boxes c.partition_point.result c.partition_point.ensures.partitioned (earlier_are_front from boxes c.requires) (λ a r f q. search rules) in
-    subst (λ (l : List (Bor RefBox)). AllByRecursion (λ (b : RefBox). from ≤ b.from) (seen l)) (sym (take_rest boxes c.partition_point.result)) (item_reached from boxes c.partition_point.result point)
+    let point = IsPartitionPoint-from_clause
+    (λ (b : Bor RefBox). ltb b.now.from from) boxes c.partition_point.result c.partition_point.ensures.partitioned
+    (earlier_are_front from boxes c.requires) (λ a r f q. search rules) in
+    subst (λ (l : List (Bor RefBox)). AllByRecursion (λ (b : RefBox). from ≤ b.from) (seen l)) (sym (take_rest boxes c.partition_point.result))
+    (item_reached from boxes c.partition_point.result point)
 
 pub returns-clause-kept : goal.returns-clause-kept
 returns-clause-kept c = λ ids.
     let from = c.args.from in
     let boxes = c.args.boxes.now in
-    let point = IsPartitionPoint-from_clause (λ (b : Bor RefBox). ltb b.now.from from) boxes c.partition_point.result c.partition_point.ensures.partitioned (earlier_are_front from boxes c.requires) (λ a r f q. search rules) in
-    ap (λ (l : List (Bor RefBox)). kept_refs ids (seen l) from) (take_rest boxes c.partition_point.result) ∙ earlier_are_none from boxes c.partition_point.result c.partition_point.ensures.bound point ids
+    let point = IsPartitionPoint-from_clause
+    (λ (b : Bor RefBox). ltb b.now.from from) boxes c.partition_point.result c.partition_point.ensures.partitioned
+    (earlier_are_front from boxes c.requires) (λ a r f q. search rules) in
+    ap (λ (l : List (Bor RefBox)). kept_refs ids (seen l) from) (take_rest boxes c.partition_point.result)
+    ∙ earlier_are_none from boxes c.partition_point.result c.partition_point.ensures.bound point ids

@@ -10,4 +10,5 @@ returns c =
     let ids = c.args.ids.now in
     let boxes = c.in_ok-boxes.boxes.items in
     let whole : length ids ≤ c.loop-id.id-index = omega (arith, c.loop-id-test.false, c.loop-id.auto.id-index-end) in
-    c.loop-id.invariant ∙ ap (λ (some : List ℕ). map (kept_refs ids (seen boxes)) some) (take_all c.loop-id.id-index ids whole) ∙ all_kept ids boxes c.args.links.now c.in_ok-boxes.ensures.same ids
+    c.loop-id.invariant ∙ ap (λ (some : List ℕ). map (kept_refs ids (seen boxes)) some) (take_all c.loop-id.id-index ids whole)
+    ∙ all_kept ids boxes c.args.links.now c.in_ok-boxes.ensures.same ids

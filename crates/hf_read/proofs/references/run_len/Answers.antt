@@ -13,5 +13,6 @@ returns c =
     let boxes = c.args.boxes.now in
     let end = c.partition_point.result in
     let front = run_is_front from kind boxes c.requires.sorted c.requires.first in
-    let point = IsPartitionPoint-from_clause (λ (b : Bor RefBox). is_of from kind b.now) boxes end c.partition_point.ensures.partitioned front (λ a r f q. search rules) in
+    let point = IsPartitionPoint-from_clause (λ (b : Bor RefBox). is_of from kind b.now) boxes end c.partition_point.ensures.partitioned front
+    (λ a r f q. search rules) in
     run_ends from kind boxes end c.requires.sorted c.requires.first c.partition_point.ensures.bound point
