@@ -2,7 +2,6 @@ pub mod Bytes
 pub mod DenotesLaws
 pub mod Filters
 pub mod FirstFaults
-pub mod GatheredLaws
 pub mod ItemLaws
 pub mod KeptGroups
 pub mod KeptProps
@@ -13,6 +12,7 @@ pub mod PartFaults
 pub mod ReadLaws
 pub mod ReadingLaws
 pub mod RecordParts
+pub mod ReferenceLaws
 pub mod RisingLaws
 pub mod RunLaws
 pub mod SearchLaws

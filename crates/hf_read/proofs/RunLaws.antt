@@ -23,7 +23,7 @@ use Rattle.hf_store.specs.References.{joined}
 use Rattle.hf_store.specs.Valid.{IsBelow}
 use Rattle.hf_store.proofs.References.{below_irreflexive, below_transitive}
 use Rattle.hf_read.specs.Kept.{is_below, with_kind, is_kept_link, kept_kinds, kept_list, kept_refs}
-use Rattle.hf_read.specs.Gathered.{AreLater, AreOf, is_of, is_later, list_if_any}
+use Rattle.hf_read.specs.References.{AreLater, AreOf, is_of, is_later, list_if_any}
 use Rattle.hf_read.proofs.Filters.{not_false, not_true}
 use Rattle.hf_read.proofs.KeptRefs.{kind_box, not_iloc, is_less}
 

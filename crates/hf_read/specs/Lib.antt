@@ -1,9 +1,9 @@
 pub mod Cuts
 pub mod Denotes
 pub mod Faults
-pub mod Gathered
 pub mod Kept
 pub mod Reading
+pub mod References
 pub mod Rising
 pub mod Seen
 pub mod SmallFiles

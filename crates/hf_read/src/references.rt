@@ -7,7 +7,7 @@ ghost use Rattle.hf_base.specs.Members.{Rises};
 ghost use Rattle.hf_base.specs.declared.four.FourCc.{FourCc as Kind};
 ghost use Rattle.hf_base.specs.declared.loc.RefBox.{RefBox as Stated};
 ghost use Rattle.hf_read.specs.Kept.{kept_refs as kept};
-ghost use Rattle.hf_read.specs.Gathered.{AreInOrder, BeginsElsewhere, BeginsWith, IsRun, is_of, list_if_any, seen};
+ghost use Rattle.hf_read.specs.References.{AreInOrder, BeginsElsewhere, BeginsWith, IsRun, is_of, list_if_any, seen};
 
 use crate::search::is_item;
 use hf_base::kinds::ILOC;

@@ -1,4 +1,4 @@
-use Rattle.hf_read.proofs.GatheredLaws.{begins}
+use Rattle.hf_read.proofs.ReferenceLaws.{begins}
 use Rattle.hf_read.proofs.references.first_kind.Goals as goal
 
 pub returns-clause-found : goal.returns-clause-found

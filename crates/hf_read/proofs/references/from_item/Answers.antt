@@ -4,8 +4,8 @@ use Rattle.std.proofs.lemmas.List.{take_rest}
 use Rattle.std.proofs.lemmas.List.Sorted.{IsPartitionPoint-from_clause}
 use Rattle.hf_base.specs.declared.loc.RefBox.{RefBox}
 use Rattle.hf_read.specs.Kept.{kept_refs}
-use Rattle.hf_read.specs.Gathered.{seen}
-use Rattle.hf_read.proofs.GatheredLaws.{earlier_are_front, item_reached, earlier_are_none}
+use Rattle.hf_read.specs.References.{seen}
+use Rattle.hf_read.proofs.ReferenceLaws.{earlier_are_front, item_reached, earlier_are_none}
 use Rattle.hf_read.proofs.references.from_item.Goals as goal
 use denote.Ref.{Bor}
 

@@ -3,8 +3,8 @@ use Rattle.std.specs.List.{filter}
 use Rattle.std.proofs.lemmas.Fn.{always_returns_same}
 use Rattle.std.proofs.lemmas.Iterator.{YieldsList-from_slice, items_from_drains}
 use Rattle.hf_base.specs.declared.loc.RefBox.{RefBox}
-use Rattle.hf_read.specs.Gathered.{is_of, key_of, seen}
-use Rattle.hf_read.proofs.GatheredLaws.{stays}
+use Rattle.hf_read.specs.References.{is_of, key_of, seen}
+use Rattle.hf_read.proofs.ReferenceLaws.{stays}
 use Rattle.hf_read.proofs.references.in_order.Goals as goal
 use denote.Ref.{Bor}
 

@@ -1,8 +1,8 @@
 use Rattle.std.proofs.Common.{arith, ◌≤◌, ℕ, List, length, map, ap, ◌∙◌}
 use Rattle.std.proofs.lemmas.List.{take_all}
 use Rattle.hf_read.specs.Kept.{kept_refs}
-use Rattle.hf_read.specs.Gathered.{seen}
-use Rattle.hf_read.proofs.GatheredLaws.{all_kept}
+use Rattle.hf_read.specs.References.{seen}
+use Rattle.hf_read.proofs.ReferenceLaws.{all_kept}
 use Rattle.hf_read.proofs.references.kept_refs.Goals as goal
 
 pub returns : goal.returns

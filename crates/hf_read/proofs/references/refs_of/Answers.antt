@@ -3,8 +3,8 @@ use Rattle.std.specs.List.{AllByRecursion}
 use Rattle.std.proofs.lemmas.List.{length-drop, take_rest}
 use Rattle.hf_base.specs.declared.loc.RefBox.{RefBox}
 use Rattle.hf_read.specs.Kept.{kept_refs}
-use Rattle.hf_read.specs.Gathered.{AreInOrder, seen}
-use Rattle.hf_read.proofs.GatheredLaws.{in_order_from, no_more, reached_from, run_more}
+use Rattle.hf_read.specs.References.{AreInOrder, seen}
+use Rattle.hf_read.proofs.ReferenceLaws.{in_order_from, no_more, reached_from, run_more}
 use Rattle.hf_read.proofs.references.refs_of.Goals as goal
 use denote.Ref.{Bor}
 

@@ -1,7 +1,7 @@
 use Rattle.std.proofs.Common.{◌≡◌, ◌≤◌, ◌++◌, length}
 use Rattle.std.specs.List.{AllByRecursion}
 use Rattle.hf_read.specs.Kept.{kept_refs as kept}
-use Rattle.hf_read.specs.Gathered.{AreInOrder, seen}
+use Rattle.hf_read.specs.References.{AreInOrder, seen}
 use Rattle.hf_read.proofs.references.refs_of.Given as goal
 
 abbrev pub invariant-loop-kind : goal.invariant-loop-kind

@@ -1,8 +1,8 @@
 use Rattle.std.proofs.Common.{rules}
 use Rattle.std.proofs.lemmas.List.Sorted.{IsPartitionPoint-from_clause}
 use Rattle.hf_base.specs.declared.loc.RefBox.{RefBox}
-use Rattle.hf_read.specs.Gathered.{is_of}
-use Rattle.hf_read.proofs.GatheredLaws.{run_ends, run_is_front}
+use Rattle.hf_read.specs.References.{is_of}
+use Rattle.hf_read.proofs.ReferenceLaws.{run_ends, run_is_front}
 use Rattle.hf_read.proofs.references.run_len.Goals as goal
 use denote.Ref.{Bor}
 

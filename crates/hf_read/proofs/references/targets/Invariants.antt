@@ -1,5 +1,5 @@
 use Rattle.std.proofs.Common.{◌≡◌, take}
-use Rattle.hf_read.specs.Gathered.{seen}
+use Rattle.hf_read.specs.References.{seen}
 use Rattle.hf_read.proofs.RunLaws.{led_to}
 use Rattle.hf_read.proofs.references.targets.Given as goal
 

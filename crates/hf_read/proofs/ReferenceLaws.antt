@@ -25,7 +25,7 @@ use Rattle.hf_store.specs.declared.item.RefList.{RefList}
 use Rattle.hf_store.specs.References.{joined, kinds_of, IsKept, KeepsRefs}
 use Rattle.hf_store.proofs.References.{references_once}
 use Rattle.hf_read.specs.Kept.{is_kept_link, kept_refs}
-use Rattle.hf_read.specs.Gathered.{AreInOrder, AreLater, AreOf, IsRun, BeginsWith, BeginsElsewhere, is_of, is_later, key_of, list_if_any, order, seen}
+use Rattle.hf_read.specs.References.{AreInOrder, AreLater, AreOf, IsRun, BeginsWith, BeginsElsewhere, is_of, is_later, key_of, list_if_any, order, seen}
 use Rattle.hf_read.proofs.Filters.{passes}
 use Rattle.hf_read.proofs.KeptRefs.{refs_are_kept}
 use Rattle.hf_read.proofs.RunLaws.{led_to, none_kept, passed_over, run_step}
