@@ -7,6 +7,7 @@ pub mod meta;
 mod needs;
 mod opening;
 pub mod order;
+mod references;
 pub mod refused;
 mod search;
 mod tables;
