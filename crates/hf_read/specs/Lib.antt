@@ -3,6 +3,7 @@ pub mod Denotes
 pub mod Faults
 pub mod Kept
 pub mod Reading
+pub mod References
 pub mod Rising
 pub mod Seen
 pub mod SmallFiles

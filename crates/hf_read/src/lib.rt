@@ -4,9 +4,13 @@
 pub mod laws;
 pub mod limits;
 pub mod meta;
+mod needs;
 mod opening;
 pub mod order;
+mod references;
 pub mod refused;
+mod search;
+mod tables;
 pub mod worked;
 
 pub use opening::open_store;
