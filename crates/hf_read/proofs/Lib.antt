@@ -13,6 +13,7 @@ pub mod ReadLaws
 pub mod ReadingLaws
 pub mod RecordParts
 pub mod RisingLaws
+pub mod SearchLaws
 pub mod StoreFaults
 pub mod StoreLaws
 pub mod TableParts

@@ -7,6 +7,7 @@ pub mod meta;
 mod opening;
 pub mod order;
 pub mod refused;
+mod search;
 pub mod worked;
 
 pub use opening::open_store;
