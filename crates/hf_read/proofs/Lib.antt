@@ -1,3 +1,4 @@
+pub mod AssocLaws
 pub mod Bytes
 pub mod DenotesLaws
 pub mod Filters
