@@ -6,12 +6,14 @@ mod items;
 pub mod laws;
 pub mod limits;
 pub mod meta;
+mod needs;
 mod opening;
 pub mod order;
 mod properties;
 mod references;
 pub mod refused;
 mod search;
+mod tables;
 pub mod worked;
 
 pub use opening::open_store;
