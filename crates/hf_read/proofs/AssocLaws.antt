@@ -4,7 +4,7 @@ use Rattle.std.specs.Prelude.{slice_get}
 use Rattle.std.specs.List.{filter, flat_map}
 use Rattle.std.specs.Option.{option_map, option_to_list}
 use Rattle.std.proofs.lemmas.Bool.{cases_Bool, eqb-true, ne_eqb, eq-eqb}
-use Rattle.std.proofs.lemmas.List.{append-nil, append_assoc, take_more, get_or-map}
+use Rattle.std.proofs.lemmas.List.{append-nil, take_more, get_or-map, map-append}
 use Rattle.std.proofs.lemmas.List.Concat.{flat_map-append, flat_map-cons}
 use Rattle.std.proofs.lemmas.List.Elements.{filter-append}
 use Rattle.std.proofs.lemmas.Option.{slice_get_past}
@@ -26,26 +26,9 @@ none_at zero props which = refl
 none_at (suc k) props (inl e) = absurd cc
 none_at (suc k) props (inr past) = slice_get_past props k (omega (arith, past))
 
-some_at : (n k : ℕ) (props : List Prop) (prop : Prop) → n ≡ k + 1 → slice_get props k ≡ Some prop → prop_at n props ≡ Some prop
-some_at zero k props prop e got = absurd (omega (arith, e))
-some_at (suc j) k props prop e got = let same : j ≡ k = omega (arith, e) in ap (λ i. slice_get props i) same ∙ got
-
 -- a number that is 0, or past the end, selects nothing
 pub none_held : (props : List Prop) (p : Pick) → (p.index ≡ 0) ⊎ (length props < p.index) → held_at props p ≡ []
 none_held props p which = ap (λ (o : Option Prop). option_to_list (option_map (λ (prop : Prop). record { essential = p.essential; prop = prop }) o)) (none_at p.index props which)
-
-pub one_held : (props : List Prop) (p : Pick) (k : ℕ) (prop : Prop) → p.index ≡ k + 1 → slice_get props k ≡ Some prop → held_at props p ≡ record { essential = p.essential; prop = prop } ∷ []
-one_held props p k prop e got = ap (λ (o : Option Prop). option_to_list (option_map (λ (x : Prop). record { essential = p.essential; prop = x }) o)) (some_at p.index k props prop e got)
-
--- and those of one association more
-pub picks_more : (props : List Prop) (ps : List Pick) (i : ℕ) (d : Pick) (front held next : List Held) → i < length ps
-    → held ≡ front ++ flat_map (held_at props) (take i ps) → next ≡ held ++ held_at props (get_or ps i d) → next ≡ front ++ flat_map (held_at props) (take (i + 1) ps)
-picks_more props ps i d front held next less so_far e =
-    let one : flat_map (held_at props) (take (i + 1) ps) ≡ flat_map (held_at props) (take i ps) ++ held_at props (get_or ps i d) =
-    ap (flat_map (held_at props)) (take_more ps i d less) ∙ flat_map-append (held_at props) (take i ps) (get_or ps i d ∷ [])
-    ∙ ap (λ l. flat_map (held_at props) (take i ps) ++ l) (flat_map-cons (held_at props) (get_or ps i d) [] ∙ append-nil (held_at props (get_or ps i d))) in
-    e ∙ ap (λ l. l ++ held_at props (get_or ps i d)) so_far ∙ append_assoc front (flat_map (held_at props) (take i ps)) (held_at props (get_or ps i d))
-    ∙ ap (λ l. front ++ l) (sym one)
 
 -- ---- one entry
 
@@ -113,6 +96,13 @@ entry_nowhere props assocs a ids none =
     map_same (with_assocs props assocs) (with_assocs props (assocs ++ a ∷ [])) ids (λ id h. held_same props assocs a id (λ e. not_has a.item ids none (subst (λ n. IsIn n ids) (sym e) h)))
 
 -- none yet
-pub no_entries : (props : List Prop) (ids : List ℕ) → map (λ id. []) ids ≡ map (with_assocs props []) ids
+abbrev no_props : ℕ → List Held
+no_props id = []
+
+pub one_empty : (ids : List ℕ) (i : ℕ) (lists : List (List Held)) → i < length ids → lists ≡ map no_props (take i ids) → lists ++ [] ∷ [] ≡ map no_props (take (i + 1) ids)
+one_empty ids i lists less so_far =
+    ap (λ (l : List (List Held)). l ++ [] ∷ []) so_far ∙ sym (ap (map no_props) (take_more ids i 0 less) ∙ map-append no_props (take i ids) (get_or ids i 0 ∷ []))
+
+pub no_entries : (props : List Prop) (ids : List ℕ) → map no_props ids ≡ map (with_assocs props []) ids
 unfolding kept_props
 no_entries props ids = refl

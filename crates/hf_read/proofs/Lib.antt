@@ -10,6 +10,7 @@ pub mod KeptProps
 pub mod KeptRefs
 pub mod LeastLaws
 pub mod LimitLaws
+pub mod MadeItems
 pub mod Opened
 pub mod PartFaults
 pub mod ReadLaws

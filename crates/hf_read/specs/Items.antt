@@ -1,7 +1,9 @@
 -- Items of what was read for each of them.
 use Rattle.std.specs.Prelude.{ℕ, List, [], ◌∷◌}
 use Rattle.hf_info.specs.Infe.{Info}
-use Rattle.hf_store.specs.Store.{Item, Held, RefList}
+use Rattle.hf_prop.specs.declared.held.Held.{Held}
+use Rattle.hf_store.specs.Store.{Item}
+use Rattle.hf_store.specs.declared.item.RefList.{RefList}
 
 -- the item of an entry of `iinf`, with these bytes, properties and references
 abbrev pub item_with : Info → List ℕ → List Held → List RefList → Item

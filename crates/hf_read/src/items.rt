@@ -75,7 +75,7 @@ pub fn store_parts<'a>(
 ) -> Result<Parts<'a>, OpenFault>
     requires { AreReadable tables }
     ensures { (t : Tables) → AreTablesOf tables.entry t → MatchOpen result
-        (λ p. (locations_fault file.now (option_copied idat.entry) (items_in t) ≡ Ok tt) × (stated p ≡ store_at file.now (option_copied idat.entry) (brands_of brands) primary t))
+        (λ p. (locations_fault file.now (option_copied idat.entry) (items_in t) ≡ Ok tt) × (stated p ≡ store_at file.now (option_copied idat.entry) (brands_of brands.entry) primary t))
         (λ why. locations_fault file.now (option_copied idat.entry) (items_in t) ≡ Err why) }
 {
     let MetaTables {
