@@ -65,7 +65,7 @@ left_items ids g id h = in_has id ids (passed (λ x. has_id x ids) g.entities id
 
 -- ---- which groups are kept
 
-pub fewer : (ids xs : List ℕ) → length (filter (λ id. has_id id ids) xs) ≤ length xs
+fewer : (ids xs : List ℕ) → length (filter (λ id. has_id id ids) xs) ≤ length xs
 fewer ids [] = omega arith
 fewer ids (x ∷ xs) = let le = fewer ids xs in elim (cases_Bool (has_id x ids)) [ inl t ↦ rw t (omega arith) | inr f ↦ rw f (omega arith) ]
 

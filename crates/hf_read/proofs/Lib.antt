@@ -3,7 +3,6 @@ pub mod Bytes
 pub mod DenotesLaws
 pub mod Filters
 pub mod FirstFaults
-pub mod GroupLaws
 pub mod ItemLaws
 pub mod KeptGroups
 pub mod KeptProps

@@ -1,10 +1,10 @@
 //! The groups that a store keeps.
 
-ghost use Rattle.std.specs.Prelude.{◌≡◌, ◌<◌, map, filter, IfOk, IfSome, IfNone, true, false, IsTrue};
+ghost use Rattle.std.specs.Prelude.{◌≡◌, ◌<◌, ℕ, List, length, map, filter, IfOk, IfSome, IfNone, true, false, IsTrue};
 ghost use Rattle.std.specs.List.Sorted.{IsPermutation, IsNonDecreasingBy};
 ghost use Rattle.hf_base.specs.Entries.{has_id, are_distinct};
 ghost use Rattle.hf_base.specs.Members.{Rises};
-ghost use Rattle.hf_links.specs.Grpl.{group_of, groups_of, group_ids};
+ghost use Rattle.hf_links.specs.Grpl.{Group as Stated, group_of, groups_of, group_ids};
 ghost use Rattle.hf_read.specs.Kept.{left_of as left_of_stated, is_kept_group, kept_groups as kept_groups_stated};
 
 use hf_base::{Ids, NoMemory, Series};
@@ -24,8 +24,15 @@ fn keep_items(entities: &mut Ids, ids: &[u32])
     );
 }
 
-/// What is left of a group; nothing where no entity is an item, or where one is none and bytes stand
-/// behind the entities, since those may speak of it.
+/// Whether a group of so many entities stays, of which this is left: an entity is left, and none is
+/// lost or nothing stands behind them.
+fn stays(count: usize, left: &Group<'_>) -> bool
+    ensures { (ids : List ℕ) (whole : Stated) → count ≡ length whole.entities → group_of left.now ≡ left_of_stated ids whole → result ≡ is_kept_group ids whole }
+{
+    left.entities.len() > 0 && (left.entities.len() == count || left.tail.is_empty())
+}
+
+/// What is left of a group, where it stays.
 fn left_of<'a>(ids: &[u32], group: Group<'a>) -> Option<Group<'a>>
     requires { Rises ◌<◌ ids.now }
     ensures some { IfSome result (λ left. (is_kept_group ids.now (group_of group.entry) ≡ true) × (group_of left ≡ left_of_stated ids.now (group_of group.entry))) }
@@ -34,11 +41,10 @@ fn left_of<'a>(ids: &[u32], group: Group<'a>) -> Option<Group<'a>>
     let mut left = group;
     let count = left.entities.len();
     keep_items(&mut left.entities, ids);
-    let lost = left.entities.len() < count;
-    if left.entities.len() == 0 || (lost && !left.tail.is_empty()) {
-        return None;
+    if stays(count, &left) {
+        return Some(left);
     }
-    Some(left)
+    None
 }
 
 /// What is left of groups, in their order.

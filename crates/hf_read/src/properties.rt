@@ -63,7 +63,7 @@ fn empty_lists<'a>(alloc: Global, ids: &[u32]) -> Result<Vec<Props<'a>>, NoMemor
     ensures { IfOk result (λ lists. lists.items ≡ map (λ id. []) ids.now) }
 {
     let mut lists = Vec::with_capacity(alloc, ids.len())?;
-    for _id in ids {
+    for _ in ids {
         lists.push(Props::new(alloc))?;
     }
     Ok(lists)

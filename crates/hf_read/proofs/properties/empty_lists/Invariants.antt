@@ -1,5 +1,5 @@
 use Rattle.std.proofs.Common.{◌≡◌, map, take, []}
 use Rattle.hf_read.proofs.properties.empty_lists.Given as goal
 
-abbrev pub invariant-loop-id : goal.invariant-loop-id
-invariant-loop-id l = l.lists.items ≡ map (λ id. []) (take l._id-index l.ids)
+abbrev pub invariant-loop : goal.invariant-loop
+invariant-loop l = l.lists.items ≡ map (λ id. []) (take l.index l.ids)
