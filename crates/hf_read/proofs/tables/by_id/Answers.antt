@@ -1,4 +1,4 @@
-use Rattle.std.proofs.Common.{ℕ, rules}
+use Rattle.std.proofs.Common.{rules}
 use Rattle.std.proofs.lemmas.List.Sorted.{IsNonDecreasingBy-from_sort_by_key}
 use Rattle.hf_info.specs.Infe.{Info, info_of}
 use Rattle.hf_info.specs.declared.infe.Info.{Info as View}
