@@ -4,6 +4,7 @@ pub mod Faults
 pub mod Items
 pub mod Kept
 pub mod Reading
+pub mod References
 pub mod Rising
 pub mod Seen
 pub mod SmallFiles
