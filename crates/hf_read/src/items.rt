@@ -60,11 +60,13 @@ fn items<'a>(
     Ok(items)
 }
 
-/// The parts of the store that tables say: its items, each with the bytes at its places, its
-/// properties and its references, and its groups. Otherwise the first fault of the places of items, in
-/// the order of `resolve`. Bytes stay where they lie. `NoMemory` comes where memory was refused.
+/// The parts of the store of these tables: an item for each entry, with the bytes at its places, its
+/// properties and its references, and the groups that are kept. Otherwise the first fault of the places
+/// of the items, in the order of `resolve`. `idat` is the body of that box, where there is one. Payloads
+/// stay where they lie. `NoMemory` comes where memory was refused.
 ///
-/// The time grows as n log n in items, extents, references, associations and entities.
+/// The time grows as n log n in items, extents, references, associations and entities, and is linear in
+/// the slices that are made.
 pub fn store_parts<'a>(
     alloc: Global,
     file: &'a [u8],
@@ -75,7 +77,8 @@ pub fn store_parts<'a>(
 ) -> Result<Parts<'a>, OpenFault>
     requires { AreReadable tables }
     ensures { (t : Tables) → AreTablesOf tables.entry t → MatchOpen result
-        (λ p. (locations_fault file.now (option_copied idat.entry) (items_in t) ≡ Ok tt) × (stated p ≡ store_at file.now (option_copied idat.entry) (brands_of brands.entry) primary t))
+        (λ p. (locations_fault file.now (option_copied idat.entry) (items_in t) ≡ Ok tt)
+        × (stated p ≡ store_at file.now (option_copied idat.entry) (brands_of brands.entry) primary t))
         (λ why. locations_fault file.now (option_copied idat.entry) (items_in t) ≡ Err why) }
 {
     let MetaTables {

@@ -27,11 +27,7 @@ fn add_pick<'a>(held: &mut Props<'a>, props: &PropList<'a>, pick: &Pick) -> Resu
 }
 
 /// The properties that associations select, behind others.
-fn add_picks<'a>(
-    held: &mut Props<'a>,
-    props: &PropList<'a>,
-    picks: &[Pick],
-) -> Result<(), NoMemory>
+fn add_picks<'a>(held: &mut Props<'a>, props: &PropList<'a>, picks: &[Pick]) -> Result<(), NoMemory>
     ensures { OnOk result (held.new ≡ held.old ++ flat_map (held_at props.now) picks.now) }
 {
     for pick in picks {

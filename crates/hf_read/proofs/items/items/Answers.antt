@@ -13,6 +13,7 @@ returns c =
     let props = YieldsList-from_vec c.args.props.items (search rules) (search rules) in
     let refs = YieldsList-from_vec c.args.refs.items (search rules) (search rules) in
     let all = YieldsList-from_zip (YieldsList-from_zip (YieldsList-from_zip infos bodies) props) refs in
-    let end = YieldsList-end all c.loop-info.yielded c.loop-info.info-iterator c.loop-info.yielded_by c.next.result c.next.new.self c.in-None.is c.next.ensures.steps in
+    let end =
+    YieldsList-end all c.loop-info.yielded c.loop-info.info-iterator c.loop-info.yielded_by c.next.result c.next.new.self c.in-None.is c.next.ensures.steps in
     c.loop-info.invariant ∙ sym (map-map made (λ q. (((q.0.0.0.now, q.0.0.1), q.0.1), q.1)) c.loop-info.yielded) ∙ ap (map made) end.0
     ∙ made_all c.args.infos.now c.args.bodies.items c.args.props.items c.args.refs.items
