@@ -1,3 +1,4 @@
+pub mod AssocLaws
 pub mod Bytes
 pub mod DenotesLaws
 pub mod Filters
@@ -8,6 +9,7 @@ pub mod KeptProps
 pub mod KeptRefs
 pub mod LeastLaws
 pub mod LimitLaws
+pub mod MadeItems
 pub mod Opened
 pub mod PartFaults
 pub mod ReadLaws

@@ -1,12 +1,15 @@
 //! What a file says of its items: the store that it denotes, or why it is refused.
 #![tactic(auto)]
 
+mod groups;
+mod items;
 pub mod laws;
 pub mod limits;
 pub mod meta;
 mod needs;
 mod opening;
 pub mod order;
+mod properties;
 mod references;
 pub mod refused;
 mod search;
