@@ -7,6 +7,7 @@ pub mod KeptGroups
 pub mod KeptProps
 pub mod KeptRefs
 pub mod LimitLaws
+pub mod LoopLemmas
 pub mod Opened
 pub mod PartFaults
 pub mod ReadLaws

@@ -2,6 +2,7 @@ pub mod Cuts
 pub mod Denotes
 pub mod Faults
 pub mod Kept
+pub mod Level
 pub mod Reading
 pub mod Rising
 pub mod Seen

@@ -2,11 +2,13 @@
 #![tactic(auto)]
 
 pub mod laws;
+mod level;
 pub mod limits;
 pub mod meta;
 mod opening;
 pub mod order;
 pub mod refused;
+mod top_level;
 pub mod worked;
 
 pub use opening::open_store;
