@@ -1,5 +1,6 @@
 pub mod Bytes
 pub mod DenotesLaws
+pub mod DerivedLaws
 pub mod Filters
 pub mod FirstFaults
 pub mod ItemLaws

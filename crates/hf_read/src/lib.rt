@@ -1,6 +1,7 @@
 //! What a file says of its items: the store that it denotes, or why it is refused.
 #![tactic(auto)]
 
+mod derived;
 pub mod laws;
 mod level;
 pub mod limits;
