@@ -3,6 +3,7 @@ pub mod Denotes
 pub mod Faults
 pub mod Kept
 pub mod Level
+pub mod Opening
 pub mod Reading
 pub mod Rising
 pub mod Seen
