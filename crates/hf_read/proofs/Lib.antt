@@ -10,6 +10,7 @@ pub mod KeptRefs
 pub mod LimitLaws
 pub mod LoopLemmas
 pub mod Opened
+pub mod OpeningLaws
 pub mod PartFaults
 pub mod ReadLaws
 pub mod ReadingLaws

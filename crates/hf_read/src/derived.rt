@@ -34,11 +34,7 @@ fn inputs_of(refs: &[RefList]) -> &[u32]
 fn is_misfit(item: &Item<'_>) -> bool
     ensures { result ≡ misfits (item_of item.now) }
 {
-    !fits(
-        item.kind,
-        &item.body,
-        inputs_of(item.refs.as_slice()).len(),
-    )
+    !fits(item.kind, &item.body, inputs_of(item.refs.as_slice()).len())
 }
 
 /// The id of the first item whose bytes do not fit what it is made of.

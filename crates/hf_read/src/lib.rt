@@ -2,6 +2,7 @@
 #![tactic(auto)]
 
 mod derived;
+mod items;
 pub mod laws;
 mod level;
 pub mod limits;
@@ -9,6 +10,7 @@ pub mod meta;
 mod opening;
 pub mod order;
 pub mod refused;
+mod tables;
 mod top_level;
 pub mod worked;
 
