@@ -10,4 +10,5 @@ pub returns : goal.returns
 returns c =
     let items = items_of c.args.items.now in
     let pairs = c.deref-2.ensures.value ∙ c.in_ok-pairs.ensures in
-    IfOk-weaker c.derive_cycle.result _ _ (λ id least. walker_is c.deref-2.result.now (input_pairs items) (ids_of items) id pairs c.requires.rises c.requires.among least) c.derive_cycle.ensures
+    let is = walker_is c.deref-2.result.now (input_pairs items) (ids_of items) in
+    IfOk-weaker c.derive_cycle.result _ _ (λ id least. is id pairs c.requires.rises c.requires.among least) c.derive_cycle.ensures
