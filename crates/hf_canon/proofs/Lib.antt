@@ -1,0 +1,9 @@
+pub mod Rising
+pub mod LaidOut
+pub mod Boxes
+pub mod Written
+pub mod Naming
+pub mod Records
+pub mod Bytes
+pub mod Items
+pub mod Denoting

@@ -72,17 +72,17 @@ valid_named name no_zero len =
 pub meta_is_kept : MetaIsKept
 meta_is_kept = (λ name no_zero len. valid_named name no_zero (named_len name 1073741682 len (omega arith)), λ name len valid. omega (arith, named_len name 1073741683 len (omega arith), valid.meta))
 
-picture_len : (bytes : List ℕ) → has_bytes bytes ≡ true → length bytes ≡ 1073741824 → meta_len (picture_of bytes) ≡ 166
+picture_len : (bytes : List ℕ) → has_bytes bytes ≡ true → length bytes ≡ 1099511627776 → meta_len (picture_of bytes) ≡ 166
 unfolding layout picture_of
 picture_len bytes has len = simp (has, length-append) refl
 
-valid_picture : (bytes : List ℕ) → length bytes ≡ 1073741824 → meta_len (picture_of bytes) ≡ 166 → Valid (picture_of bytes)
+valid_picture : (bytes : List ℕ) → length bytes ≡ 1099511627776 → meta_len (picture_of bytes) ≡ 166 → Valid (picture_of bytes)
 unfolding picture_of table_of body_sum
 valid_picture bytes len meta =
     let ends = ends (λ id. 0) (input_pairs (picture_of bytes).items) refl in
     search (found, ends, arith)
 
-refused_picture : (bytes : List ℕ) → length bytes ≡ 1073741825 → Valid (picture_of bytes) → ⊥
+refused_picture : (bytes : List ℕ) → length bytes ≡ 1099511627777 → Valid (picture_of bytes) → ⊥
 unfolding picture_of body_sum
 refused_picture bytes len valid = omega (arith, len, valid.body)
 

@@ -26,8 +26,8 @@ MetaIsKept =
 
 abbrev pub BodyIsKept : Type 0
 BodyIsKept =
-    ((bytes : List ℕ) → length bytes ≡ 1073741824 → Valid (picture_of bytes))
-    × ((bytes : List ℕ) → length bytes ≡ 1073741825 → Valid (picture_of bytes) → ⊥)
+    ((bytes : List ℕ) → length bytes ≡ 1099511627776 → Valid (picture_of bytes))
+    × ((bytes : List ℕ) → length bytes ≡ 1099511627777 → Valid (picture_of bytes) → ⊥)
 
 -- 65,535 references of one type, each to the item itself, and one more
 abbrev pub LinksAreKept : Type 0
