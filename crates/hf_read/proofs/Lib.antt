@@ -7,6 +7,7 @@ pub mod ItemLaws
 pub mod KeptGroups
 pub mod KeptProps
 pub mod KeptRefs
+pub mod LeastLaws
 pub mod LimitLaws
 pub mod LoopLemmas
 pub mod Opened
@@ -16,6 +17,8 @@ pub mod ReadLaws
 pub mod ReadingLaws
 pub mod RecordParts
 pub mod RisingLaws
+pub mod SearchLaws
+pub mod SortedLaws
 pub mod StoreFaults
 pub mod StoreLaws
 pub mod TableParts
