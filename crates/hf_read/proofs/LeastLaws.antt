@@ -1,5 +1,6 @@
 -- The least id that something bad stands at, found in one pass over what may be bad.
-use Rattle.std.proofs.Common.{◌≡◌, ℕ, ◌+◌, ◌≤◌, ◌<◌, min, Bool, true, false, not, ◌&&◌, ◌||◌, eqb, List, [], ◌∷◌, length, take, get_or, find, Option, Some, None, refl, sym, ap, subst, ◌∙◌, arith, inl, inr}
+use Rattle.std.proofs.Common.{◌≡◌, ℕ, ◌+◌, ◌≤◌, ◌<◌, min, Bool, true, false, not, ◌&&◌, ◌||◌, eqb, List, [], ◌∷◌, length, take, get_or, find, Option, Some, None}
+use Rattle.std.proofs.Common.{refl, sym, ap, subst, ◌∙◌, arith, inl, inr}
 use Rattle.std.specs.List.{list_any}
 use Rattle.std.specs.Prelude.{nat_lt}
 use Rattle.std.specs.Option.{unwrap_or}
@@ -92,10 +93,10 @@ none_yet [] = refl
 none_yet (id ∷ ids) = none_yet ids
 
 -- one more, at which something bad stands: m is the least id before it, or its own id where there was none
-pub least_more : {A : Type 0} (key : A → ℕ) (bad : A → Bool) (ids : List ℕ) (xs : List A) (i : ℕ) (x : A) (o : Option ℕ) (m n : ℕ)
+pub least_more : {A : Type 0} (key : A → ℕ) (bad : A → Bool) (ids : List ℕ) (xs : List A) {i : ℕ} {x : A} {o : Option ℕ} {m n : ℕ}
     → Rises ◌<◌ ids → i < length xs → x ≡ get_or xs i x → has_id (key x) ids && bad x ≡ true
     → o ≡ find (stands key bad (take i xs)) ids → m ≡ unwrap_or o (key x) → n ≡ min m (key x) → Some n ≡ find (stands key bad (take (i + 1) xs)) ids
-least_more {A = A} key bad ids xs i x o m n up less here both before first lesser =
+least_more {A = A} key bad ids xs {i = i} {x = x} {o = o} {m = m} {n = n} up less here both before first lesser =
     let p = and_parts (has_id (key x) ids) (bad x) both in
     let step : (id : ℕ) → IsIn id ids → stands key bad (take (i + 1) xs) id ≡ or_there (stands key bad (take i xs)) (key x) id = λ id h.
     list_any_more (λ (y : A). eqb (key y) id && bad y) xs i x less
@@ -123,9 +124,9 @@ not_both ids k id true e h = elim (cases_Bool (eqb k id)) [
 not_both ids k id false e h = elim (cases_Bool (eqb k id)) [ inl t ↦ rw t refl | inr f ↦ rw f refl ]
 
 -- one more, at which nothing bad stands
-pub least_same : {A : Type 0} (key : A → ℕ) (bad : A → Bool) (ids : List ℕ) (xs : List A) (i : ℕ) (x : A) → i < length xs → x ≡ get_or xs i x
+pub least_same : {A : Type 0} (key : A → ℕ) (bad : A → Bool) (ids : List ℕ) (xs : List A) {i : ℕ} {x : A} → i < length xs → x ≡ get_or xs i x
     → has_id (key x) ids && bad x ≡ false → find (stands key bad (take i xs)) ids ≡ find (stands key bad (take (i + 1) xs)) ids
-least_same {A = A} key bad ids xs i x less here fine =
+least_same {A = A} key bad ids xs {i = i} {x = x} less here fine =
     let step : (id : ℕ) → IsIn id ids → stands key bad (take (i + 1) xs) id ≡ stands key bad (take i xs) id = λ id h.
     list_any_more (λ (y : A). eqb (key y) id && bad y) xs i x less
     ∙ ap (λ (y : A). stands key bad (take i xs) id || (eqb (key y) id && bad y)) (sym here)
@@ -143,12 +144,20 @@ dangles ids r = is_need r.kind && list_any (λ to. not (has_id to ids)) r.to
 abbrev pub passes : ℕ → Assoc → Bool
 passes props a = list_any (λ (p : Pick). nat_lt props p.index) a.picks
 
-pub picked : (test : Pick → Bool) (id : ℕ) (assocs : List Assoc) → list_any test (picks_of id assocs) ≡ stands (λ (a : Assoc). a.item) (λ (a : Assoc). list_any test a.picks) assocs id
-picked test id [] = refl
-picked test id (a ∷ assocs) = elim (cases_Bool (eqb a.item id)) [
-  | inl t ↦ rw t (list_any-append test a.picks (picks_of id assocs) ∙ ap (λ (b : Bool). list_any test a.picks || b) (picked test id assocs))
-  | inr f ↦ rw f (picked test id assocs)
-]
+abbrev past_at : ℕ → List Assoc → ℕ → Bool
+past_at props assocs id = stands (λ (a : Assoc). a.item) (passes props) assocs id
 
-pub past_is : (ids : List ℕ) (v : Iprp) → find (stands (λ (a : Assoc). a.item) (passes (length v.props)) v.assocs) ids ≡ find (λ id. list_any (is_past v.props) (picks_of id v.assocs)) ids
-past_is ids v = find_same (stands (λ (a : Assoc). a.item) (passes (length v.props)) v.assocs) (λ id. list_any (is_past v.props) (picks_of id v.assocs)) ids (λ id h. sym (picked (is_past v.props) id v.assocs))
+picked : (props id : ℕ) (assocs : List Assoc) → list_any (λ (p : Pick). nat_lt props p.index) (picks_of id assocs) ≡ past_at props assocs id
+picked props id [] = refl
+picked props id (a ∷ assocs) =
+    let test : Pick → Bool = λ p. nat_lt props p.index in
+    elim (cases_Bool (eqb a.item id)) [
+      | inl t ↦ rw t (list_any-append test a.picks (picks_of id assocs) ∙ ap (λ (b : Bool). list_any test a.picks || b) (picked props id assocs))
+      | inr f ↦ rw f (picked props id assocs)
+    ]
+
+pub past_is : (ids : List ℕ) (v : Iprp)
+    → find (past_at (length v.props) v.assocs) ids ≡ find (λ id. list_any (is_past v.props) (picks_of id v.assocs)) ids
+past_is ids v =
+    let past : ℕ → Bool = λ id. list_any (is_past v.props) (picks_of id v.assocs) in
+    find_same (past_at (length v.props) v.assocs) past ids (λ id h. sym (picked (length v.props) id v.assocs))

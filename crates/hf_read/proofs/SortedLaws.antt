@@ -33,7 +33,8 @@ same_first key x y xs ys xup yup (inr h) (inl e) = e
 same_first key x y xs ys xup yup (inr h) (inr k) = absurd (let a = above key (key y) ys x yup h in let b = above key (key x) xs y xup k in omega arith)
 
 -- what is behind the first of one list is behind the first of the other
-behind : {A : Type 0} (key : A → ℕ) (x : A) (xs ys : List A) → RisesFrom ◌<◌ (key x) (map key xs) → ((z : A) → IsIn z (x ∷ xs) → IsIn z (x ∷ ys)) → (z : A) → IsIn z xs → IsIn z ys
+behind : {A : Type 0} (key : A → ℕ) (x : A) (xs ys : List A) → RisesFrom ◌<◌ (key x) (map key xs)
+    → ((z : A) → IsIn z (x ∷ xs) → IsIn z (x ∷ ys)) → (z : A) → IsIn z xs → IsIn z ys
 behind key x xs ys up into z h = elim (into z (inr h)) [
   | inl e ↦ absurd (let over = above key (key x) xs z up h in let same : key x ≡ key z = ap key e in omega arith)
   | inr k ↦ k
@@ -86,13 +87,15 @@ rises_is key xs ys distinct moved up =
     (λ z h. in_permutation xs ys moved z (from_rising key xs z h))
 
 still_distinct : {A : Type 0} (key : A → ℕ) (xs ys : List A) → are_distinct (map key xs) ≡ true → IsPermutation xs ys → IsDistinct eqb (map key ys)
-still_distinct key xs ys distinct moved = IsDistinct-IsPermutation eqb eqb-flip (map key xs) (map key ys) (IsPermutation-map key xs ys moved) (distinct_of (map key xs) distinct)
+still_distinct key xs ys distinct moved =
+    IsDistinct-IsPermutation eqb eqb-flip (map key xs) (map key ys) (IsPermutation-map key xs ys moved) (distinct_of (map key xs) distinct)
 
 pub sorted_is : {A : Type 0} (key : A → ℕ) (xs ys : List A) → are_distinct (map key xs) ≡ true → IsPermutation xs ys → IsNonDecreasingBy key ys → ys ≡ by_rising key xs
 sorted_is key xs ys distinct moved up = rises_is key xs ys distinct moved (rise key ys up (still_distinct key xs ys distinct moved))
 
 -- the same of what the elements stand for
-pub sorted_seen : {X A : Type 0} (view : X → A) (key : A → ℕ) (xs ys : List X) → are_distinct (map key (map view xs)) ≡ true → IsPermutation xs ys → IsNonDecreasingBy (λ (x : X). key (view x)) ys
+pub sorted_seen : {X A : Type 0} (view : X → A) (key : A → ℕ) (xs ys : List X) → are_distinct (map key (map view xs)) ≡ true
+    → IsPermutation xs ys → IsNonDecreasingBy (λ (x : X). key (view x)) ys
     → map view ys ≡ by_rising key (map view xs)
 sorted_seen {X = X} view key xs ys distinct moved up =
     let key' : X → ℕ = λ x. key (view x) in

@@ -1,6 +1,6 @@
 //! The tables of `meta`.
 
-ghost use Rattle.std.specs.Prelude.{◌≡◌, map, option_map, IfOk, IfSome, IsTrue, Ok, Err};
+ghost use Rattle.std.specs.Prelude.{◌≡◌, option_map, IfOk, IfSome, IsTrue, Ok, Err};
 ghost use Rattle.hf_base.specs.Entries.{are_distinct};
 ghost use Rattle.hf_base.specs.Reading.{Gives, MatchOpen};
 ghost use Rattle.hf_base.specs.declared.kinds.TheConstants as kinds;
@@ -46,7 +46,7 @@ fn ids_of(alloc: Global, infos: &[Info<'_>]) -> Result<Vec<u32>, NoMemory>
 }
 
 /// The entries of an `iloc`; where there is none, there are none.
-fn locs_of(alloc: Global, iloc: Option<BoxView<'_>>) -> Result<Vec<Loc>, OpenFault>
+fn iloc_of(alloc: Global, iloc: Option<BoxView<'_>>) -> Result<Vec<Loc>, OpenFault>
     requires { IfSome iloc (IsBoxOf kinds.ILOC) }
     ensures exact { Gives (λ locs. locs.items) result (locs_in (option_map box_of iloc.entry)) }
     ensures distinct { IfOk result (λ locs. HaveDistinctIds locs.items) }
@@ -58,7 +58,7 @@ fn locs_of(alloc: Global, iloc: Option<BoxView<'_>>) -> Result<Vec<Loc>, OpenFau
 }
 
 /// The references of an `iref`; where there is none, there are none.
-fn links_of(alloc: Global, iref: Option<BoxView<'_>>) -> Result<Vec<RefBox>, OpenFault>
+fn iref_of(alloc: Global, iref: Option<BoxView<'_>>) -> Result<Vec<RefBox>, OpenFault>
     requires { IfSome iref (IsBoxOf kinds.IREF) }
     ensures { Gives (λ links. links.items) result (links_in (option_map box_of iref.entry)) }
 {
@@ -84,7 +84,7 @@ fn iprp_of<'a>(alloc: Global, iprp: Option<BoxView<'a>>) -> Result<Iprp<'a>, Ope
 }
 
 /// The groups of a `grpl`; where there is none, there are none.
-fn groups_in_box<'a>(alloc: Global, grpl: Option<BoxView<'a>>) -> Result<Vec<Group<'a>>, OpenFault>
+fn grpl_of<'a>(alloc: Global, grpl: Option<BoxView<'a>>) -> Result<Vec<Group<'a>>, OpenFault>
     requires { IfSome grpl (IsBoxOf kinds.GRPL) }
     ensures exact { Gives (λ groups. groups_of groups.items) result (groups_in (option_map box_of grpl.entry)) }
     ensures distinct { IfOk result (λ groups. IsTrue (are_distinct (group_ids (groups_of groups.items)))) }
@@ -117,12 +117,12 @@ pub fn read_tables<'a>(
     let infos = by_id(read_iinf(alloc, &parts.iinf)?)?;
     let ids = ids_of(alloc, &infos)?;
     check_primary(&ids, primary)?;
-    let locs = locs_of(alloc, parts.iloc)?;
-    let links = links_of(alloc, parts.iref)?;
+    let locs = iloc_of(alloc, parts.iloc)?;
+    let links = iref_of(alloc, parts.iref)?;
     check_needs(&ids, &links)?;
     let iprp = iprp_of(alloc, parts.iprp)?;
     check_picks(&ids, &iprp)?;
-    let groups = groups_in_box(alloc, parts.grpl)?;
+    let groups = grpl_of(alloc, parts.grpl)?;
     Ok(MetaTables {
         infos,
         ids,

@@ -14,10 +14,10 @@ loop-link-preserved c =
     elim c.if-lacks_item.branch [
       | then-lacks_item w ↦
           w.least-is
-          ∙ least_more key bad c.args.ids.now c.args.links.now c.loop-link.link-index c.link-item.result c.loop-link.least w.unwrap_or.result w.min.result c.requires c.loop-link-test.true c.link-item.is
+          ∙ least_more key bad c.args.ids.now c.args.links.now c.requires c.loop-link-test.true c.link-item.is
           (sym c.lacks_item.ensures ∙ w.if-lacks_item.true) c.loop-link.invariant w.unwrap_or.ensures w.min.ensures
       | else-lacks_item w ↦
           w.least-is
           ∙ c.loop-link.invariant
-          ∙ least_same key bad c.args.ids.now c.args.links.now c.loop-link.link-index c.link-item.result c.loop-link-test.true c.link-item.is (sym c.lacks_item.ensures ∙ w.if-lacks_item.false)
+          ∙ least_same key bad c.args.ids.now c.args.links.now c.loop-link-test.true c.link-item.is (sym c.lacks_item.ensures ∙ w.if-lacks_item.false)
     ]

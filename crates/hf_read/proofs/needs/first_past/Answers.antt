@@ -16,12 +16,12 @@ loop-assoc-preserved c =
     elim c.if-lacks_property.branch [
       | then-lacks_property w ↦
           w.least-is
-          ∙ least_more key bad c.args.ids.now assocs c.loop-assoc.assoc-index c.assoc-item.result c.loop-assoc.least w.unwrap_or.result w.min.result c.requires c.loop-assoc-test.true c.assoc-item.is
+          ∙ least_more key bad c.args.ids.now assocs c.requires c.loop-assoc-test.true c.assoc-item.is
           (sym c.lacks_property.ensures ∙ w.if-lacks_property.true) c.loop-assoc.invariant w.unwrap_or.ensures w.min.ensures
       | else-lacks_property w ↦
           w.least-is
           ∙ c.loop-assoc.invariant
-          ∙ least_same key bad c.args.ids.now assocs c.loop-assoc.assoc-index c.assoc-item.result c.loop-assoc-test.true c.assoc-item.is (sym c.lacks_property.ensures ∙ w.if-lacks_property.false)
+          ∙ least_same key bad c.args.ids.now assocs c.loop-assoc-test.true c.assoc-item.is (sym c.lacks_property.ensures ∙ w.if-lacks_property.false)
     ]
 
 pub returns : goal.returns
