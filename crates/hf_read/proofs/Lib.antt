@@ -16,7 +16,9 @@ pub mod PartFaults
 pub mod ReadLaws
 pub mod ReadingLaws
 pub mod RecordParts
+pub mod ReferenceLaws
 pub mod RisingLaws
+pub mod RunLaws
 pub mod SearchLaws
 pub mod SortedLaws
 pub mod StoreFaults

@@ -5,6 +5,7 @@ pub mod Kept
 pub mod Level
 pub mod Opening
 pub mod Reading
+pub mod References
 pub mod Rising
 pub mod Seen
 pub mod SmallFiles

@@ -10,6 +10,7 @@ pub mod meta;
 mod needs;
 mod opening;
 pub mod order;
+mod references;
 pub mod refused;
 mod search;
 mod tables;
