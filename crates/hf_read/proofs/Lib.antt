@@ -1,3 +1,4 @@
+pub mod AssocLaws
 pub mod Bytes
 pub mod DenotesLaws
 pub mod DerivedLaws
@@ -10,6 +11,7 @@ pub mod KeptRefs
 pub mod LeastLaws
 pub mod LimitLaws
 pub mod LoopLemmas
+pub mod MadeItems
 pub mod Opened
 pub mod OpeningLaws
 pub mod PartFaults

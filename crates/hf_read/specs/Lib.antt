@@ -1,6 +1,7 @@
 pub mod Cuts
 pub mod Denotes
 pub mod Faults
+pub mod Items
 pub mod Kept
 pub mod Level
 pub mod Opening

@@ -2,6 +2,7 @@
 #![tactic(auto)]
 
 mod derived;
+mod groups;
 mod items;
 pub mod laws;
 mod level;
@@ -10,6 +11,7 @@ pub mod meta;
 mod needs;
 mod opening;
 pub mod order;
+mod properties;
 mod references;
 pub mod refused;
 mod search;
