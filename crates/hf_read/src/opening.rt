@@ -53,8 +53,7 @@ fn sound_parts<'a>(
     brands: Brands<'a>,
     meta: &MetaParts<'a>,
 ) -> Result<Parts<'a>, OpenFault>
-    requires small { length file.now ≤ limits.FILE }
-    requires kinds { HaveKinds meta.now }
+    requires { HaveKinds meta.now }
     ensures { MatchOpen result
         (λ parts. IsStoreOf file.now (brands_of brands.entry) (parts_seen meta.now) (stated parts))
         (λ why. reading_parts file.now (brands_of brands.entry) (parts_seen meta.now) ≡ Err why) }
