@@ -1,0 +1,5 @@
+pub mod Chains
+pub mod Named
+pub mod Parts
+pub mod Steps
+pub mod Untouched
