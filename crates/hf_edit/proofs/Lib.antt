@@ -1,3 +1,4 @@
+pub mod Arms
 pub mod Chains
 pub mod Named
 pub mod Parts

@@ -1,10 +1,10 @@
 -- An edit against which there is no reason leaves a valid store valid.
-use Rattle.std.proofs.Common.{◌≡◌, ◌≤◌, ℕ, Bool, true, false, not, cond, refl, sym, subst, arith, inl, inr, Some}
+use Rattle.std.proofs.Common.{◌≡◌, ◌<◌, ◌≤◌, ℕ, Bool, true, false, not, cond, length, refl, sym, ap, subst, arith, inl, inr, Some, None}
 use Rattle.std.specs.Prelude.{◌==◌, slice_get}
 use Rattle.hf_base.specs.declared.four.FourCc.{FourCc}
 use Rattle.hf_prop.specs.declared.held.Held.{Held}
 use Rattle.hf_table.specs.Held.{is_of}
-use Rattle.hf_store.specs.Changes.{hide, lacking, with_hidden, with_primary, without_props}
+use Rattle.hf_store.specs.Changes.{hide, id_at, lacking, removed, with_hidden, with_primary, without_props}
 use Rattle.hf_store.specs.Counts.{counts_of}
 use Rattle.hf_store.specs.Lists.{IsIn}
 use Rattle.hf_store.specs.Sizes.{AreFours, counted_meta}
@@ -12,6 +12,8 @@ use Rattle.hf_store.specs.Store.{Item, ItemStore, ids_of}
 use Rattle.hf_store.specs.Table.{table_of}
 use Rattle.hf_store.specs.Valid.{meta_len, Valid}
 use Rattle.hf_store.proofs.CutValid.{valid_removed}
+use Rattle.hf_store.proofs.Spots.{at_or, within_at}
+use Rattle.std.proofs.lemmas.List.{length-map}
 use Rattle.hf_store.proofs.MetaCounts.{good_fours, valid_fours, meta_is_counted}
 use Rattle.hf_edit.specs.Edits.{Edit, Remove, Primary, Hide, Show, Drop, named, with_item, why, step}
 use Rattle.hf_edit.specs.Left.{StepsKeepValidity}
@@ -80,8 +82,23 @@ steps_keep_validity s (Drop id kind) valid free = valid_changed id (lacking kind
 -- ---- the changes of the item at the place where the id stands
 
 module _ (s : ItemStore) (id k : ℕ) (valid : Valid s) (here : slice_get (ids_of s.items) k ≡ Some id) where
+  pub place : k < length s.items
+  place = omega (arith, within_at (ids_of s.items) k id here, length-map s.items (λ (i : Item). i.id))
+
   pub hidden_at : (hidden : Bool) → with_hidden k hidden s ≡ with_item id (hide hidden) s
   hidden_at hidden = with_item_at (hide hidden) s id k valid.ids_rise here
 
   pub lacking_at : (kind : FourCc) → without_props k kind s ≡ with_item id (lacking kind) s
   lacking_at kind = with_item_at (lacking kind) s id k valid.ids_rise here
+
+  pub removed_at : removed (id_at k s.items) s ≡ removed id s
+  removed_at = ap (λ (n : ℕ). removed n s) (at_or (ids_of s.items) k id 0 here)
+
+  pub valid_hidden : (hidden : Bool) → Valid (with_hidden k hidden s)
+  valid_hidden hidden = subst Valid (sym (hidden_at hidden)) (valid_changed id (hide hidden) (hidden_part hidden) s valid)
+
+  pub valid_lacking : (kind : FourCc) → Valid (without_props k kind s)
+  valid_lacking kind = subst Valid (sym (lacking_at kind)) (valid_changed id (lacking kind) (lacking_part kind) s valid)
+
+  pub valid_left : why s (Remove id) ≡ None → Valid (removed (id_at k s.items) s)
+  valid_left free = subst Valid (sym removed_at) (steps_keep_validity s (Remove id) valid free)

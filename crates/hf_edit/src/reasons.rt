@@ -72,7 +72,7 @@ fn has_essential(item: &Item<'_>, kind: FourCc) -> bool
 
 /// The first reason why an item does not go.
 fn against_removal(store: &Store<'_>, id: u32) -> Option<Reason>
-    ensures { result ≡ (when (store.now.primary == id) Reason.IsPrimary or_else option_map (λ by. Reason.Needed by) (needed_by_stated id store.now.items)) }
+    ensures { result ≡ (when (store.now.primary == id) Reason.IsPrimary or_else option_map (λ by. Reason.Needed by) (needed_by_stated id store.now.items) or_else None) }
 {
     if id == store.primary() {
         return Some(Reason::IsPrimary);
