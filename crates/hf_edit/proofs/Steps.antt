@@ -2,7 +2,6 @@
 use Rattle.std.proofs.Common.{◌≡◌, ◌<◌, ◌≤◌, ℕ, Bool, true, false, not, cond, length, refl, sym, ap, subst, arith, inl, inr, Some, None}
 use Rattle.std.specs.Prelude.{◌==◌, slice_get}
 use Rattle.hf_base.specs.declared.four.FourCc.{FourCc}
-use Rattle.hf_prop.specs.declared.held.Held.{Held}
 use Rattle.hf_table.specs.Held.{is_of}
 use Rattle.hf_store.specs.Changes.{hide, id_at, lacking, removed, with_hidden, with_primary, without_props}
 use Rattle.hf_store.specs.Counts.{counts_of}
@@ -15,7 +14,7 @@ use Rattle.hf_store.proofs.CutValid.{valid_removed}
 use Rattle.hf_store.proofs.Spots.{at_or, within_at}
 use Rattle.std.proofs.lemmas.List.{length-map}
 use Rattle.hf_store.proofs.MetaCounts.{good_fours, valid_fours, meta_is_counted}
-use Rattle.hf_edit.specs.Edits.{Edit, Remove, Primary, Hide, Show, Drop, named, with_item, why, step}
+use Rattle.hf_edit.specs.Edits.{Remove, Primary, Hide, Show, Drop, with_item, why}
 use Rattle.hf_edit.specs.Left.{StepsKeepValidity}
 use Rattle.hf_edit.proofs.Chains.{names_one, not_removed}
 use Rattle.hf_edit.proofs.Named.{is_somewhere, with_item_at}

@@ -1,15 +1,15 @@
 -- What an edit leaves of the items.
-use Rattle.std.proofs.Common.{◌≡◌, ℕ, Bool, true, false, not, cond, List, [], ◌∷◌, ◌++◌, map, filter, refl, sym, ap, ◌∙◌, subst, inl, inr, eqb-true, true≢false}
+use Rattle.std.proofs.Common.{◌≡◌, ℕ, Bool, true, false, not, cond, List, [], ◌∷◌, ◌++◌, map, filter, refl, sym, ap, ◌∙◌, subst, inl, inr, eqb-true}
 use Rattle.std.specs.Prelude.{◌==◌}
 use Rattle.std.proofs.lemmas.Bool.{cases_Bool}
 use Rattle.std.proofs.lemmas.List.Elements.{filter-append}
 use Rattle.hf_base.specs.declared.four.FourCc.{FourCc}
 use Rattle.hf_store.specs.Changes.{cut, cut_item, cut_refs, hide, is_other, lacking}
 use Rattle.hf_store.specs.Lists.{IsIn, not_empty}
-use Rattle.hf_store.specs.Store.{Item, ItemStore}
+use Rattle.hf_store.specs.Store.{Item, ids_of}
 use Rattle.hf_store.specs.declared.item.RefList.{RefList}
-use Rattle.hf_edit.specs.Edits.{Edit, Remove, Primary, Hide, Show, Drop, with_item, step}
-use Rattle.hf_edit.specs.Left.{links_of, AreLeft, IsLeft, UntouchedItemsStay, NoItemComes}
+use Rattle.hf_edit.specs.Edits.{Edit, Remove, Primary, Hide, Show, Drop}
+use Rattle.hf_edit.specs.Left.{links_of, AreLeft, IsLeft, UntouchedItemsStay, NoItemComes, RestStays}
 use Rattle.hf_edit.proofs.Named.{differ}
 
 -- ---- members
@@ -188,3 +188,30 @@ no_item_comes s (Primary id) j h = (j, h, is_left (Primary id) j)
 no_item_comes s (Hide id) j h = from_left (Hide id) s.items j h
 no_item_comes s (Show id) j h = from_left (Show id) s.items j h
 no_item_comes s (Drop id kind) j h = from_left (Drop id kind) s.items j h
+
+-- ---- the rest
+
+ids-filter : (stays : ℕ → Bool) (is : List Item) → ids_of (filter (λ (i : Item). stays i.id) is) ≡ filter stays (ids_of is)
+ids-filter stays [] = refl
+ids-filter stays (i ∷ is) =
+    elim (cases_Bool (stays i.id)) [
+      | inl here ↦ rw here (ap (λ ids. i.id ∷ ids) (ids-filter stays is))
+      | inr gone ↦ rw gone (ids-filter stays is)
+    ]
+
+ids-left : (e : Edit) (is : List Item) → ids_of (map (left e) is) ≡ ids_of is
+ids-left e [] = refl
+ids-left e (i ∷ is) = ap (λ id. id ∷ ids_of (map (left e) is)) (is_left e i).id ∙ ap (λ ids. i.id ∷ ids) (ids-left e is)
+
+pub rest_stays : RestStays
+unfolding cut
+rest_stays s (Remove id) = record {
+  brands = refl;
+  primary = refl;
+  ids = ids-left (Remove id) (filter (λ (i : Item). is_other id i.id) s.items) ∙ ids-filter (is_other id) s.items;
+  groups = refl;
+}
+rest_stays s (Primary id) = record { brands = refl; primary = refl; ids = refl; groups = refl }
+rest_stays s (Hide id) = record { brands = refl; primary = refl; ids = ids-left (Hide id) s.items; groups = refl }
+rest_stays s (Show id) = record { brands = refl; primary = refl; ids = ids-left (Show id) s.items; groups = refl }
+rest_stays s (Drop id kind) = record { brands = refl; primary = refl; ids = ids-left (Drop id kind) s.items; groups = refl }

@@ -1,5 +1,5 @@
 -- Edits of a store: what each makes of it, and the reasons against it. These rules are this project's own.
-use Rattle.std.specs.Prelude.{ℕ, ◌==◌, Bool, true, false, not, ◌&&◌, ◌||◌, List, map, Option, Some, None, option_map, if◌then◌else◌}
+use Rattle.std.specs.Prelude.{ℕ, ◌==◌, Bool, true, false, not, ◌&&◌, ◌||◌, map, Option, Some, None, option_map, if◌then◌else◌}
 use Rattle.std.specs.List.{list_any}
 use Rattle.hf_base.specs.declared.four.FourCc.{FourCc}
 use Rattle.hf_box.specs.Literals.{four}

@@ -1,9 +1,10 @@
 -- What edits leave as it was.
-use Rattle.std.specs.Prelude.{ℕ, ◌≡◌, ◌≢◌, ◌==◌, not, List, map, filter, None}
+use Rattle.std.specs.Prelude.{ℕ, ◌≡◌, ◌==◌, not, List, map, filter, None}
 use Rattle.std.specs.List.{flat_map}
 use Rattle.hf_base.specs.declared.four.FourCc.{FourCc}
 use Rattle.hf_store.specs.Lists.{IsIn}
-use Rattle.hf_store.specs.Store.{Item, ItemStore}
+use Rattle.hf_store.specs.Changes.{cut_groups, is_other}
+use Rattle.hf_store.specs.Store.{Item, Group, ItemStore, ids_of}
 use Rattle.hf_store.specs.declared.item.RefList.{RefList}
 use Rattle.hf_store.specs.Valid.{Valid}
 use Rattle.hf_edit.specs.Edits.{Edit, Remove, Primary, Hide, Show, Drop, step, why}
@@ -46,6 +47,28 @@ pub record IsLeft (e : Edit) (before after : Item) : Type 0 where
   pub props : (Strips e before.id → ⊥) → after.props ≡ before.props
   pub refs : AreLeft e before.refs after.refs
 
+-- the ids of the items that are left, in their order
+abbrev pub AreIdsLeft : Edit → List ℕ → List ℕ → Type 0
+AreIdsLeft (Remove id) before after = after ≡ filter (λ x. not (x == id)) before
+AreIdsLeft _ before after = after ≡ before
+
+-- the groups that are left: only a removed item goes from them
+abbrev pub AreGroupsLeft : Edit → List Group → List Group → Type 0
+AreGroupsLeft (Remove id) before after = after ≡ cut_groups (is_other id) before
+AreGroupsLeft _ before after = after ≡ before
+
+-- the primary item that is left
+abbrev pub IsPrimaryLeft : Edit → ℕ → ℕ → Type 0
+IsPrimaryLeft (Primary id) before after = after ≡ id
+IsPrimaryLeft _ before after = after ≡ before
+
+-- a store, and what an edit leaves of it beside what each item has
+pub record IsRestLeft (e : Edit) (before after : ItemStore) : Type 0 where
+  pub brands : after.brands ≡ before.brands
+  pub primary : IsPrimaryLeft e before.primary after.primary
+  pub ids : AreIdsLeft e (ids_of before.items) (ids_of after.items)
+  pub groups : AreGroupsLeft e before.groups after.groups
+
 -- ---- laws
 
 -- an edit against which there is no reason leaves a valid store valid
@@ -61,3 +84,7 @@ UntouchedItemsStay =
 -- and no other item is there
 abbrev pub NoItemComes : Type 0
 NoItemComes = (s : ItemStore) (e : Edit) (j : Item) → IsIn j (step s e).items → (i : Item) × IsIn i s.items × IsLeft e i j
+
+-- and all else stays
+abbrev pub RestStays : Type 0
+RestStays = (s : ItemStore) (e : Edit) → IsRestLeft e s (step s e)

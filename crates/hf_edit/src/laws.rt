@@ -1,6 +1,6 @@
 //! Laws of the edits. Each is the contract of a function that does nothing.
 
-ghost use Rattle.hf_edit.specs.Left.{NoItemComes, StepsKeepValidity, UntouchedItemsStay};
+ghost use Rattle.hf_edit.specs.Left.{NoItemComes, RestStays, StepsKeepValidity, UntouchedItemsStay};
 
 /// An edit against which there is no reason leaves a valid store valid.
 pub fn steps_keep_validity()
@@ -14,4 +14,10 @@ pub fn steps_keep_validity()
 pub fn untouched_items_stay()
     ensures stay { UntouchedItemsStay }
     ensures none_comes { NoItemComes }
+{}
+
+/// The brands stay, the primary item but with `Primary`, the order of the items, and the groups but
+/// for the id of a removed item.
+pub fn rest_stays()
+    ensures { RestStays }
 {}

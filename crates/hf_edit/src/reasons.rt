@@ -50,14 +50,20 @@ fn is_minor_kind(kind: FourCc) -> bool
 fn is_minor(item: &Item<'_>) -> bool
     ensures { result ≡ is_minor_stated (item_of item.now) }
 {
-    item.refs.as_slice().iter().any(|list| is_minor_kind(list.kind))
+    item.refs
+        .as_slice()
+        .iter()
+        .any(|list| is_minor_kind(list.kind))
 }
 
 /// Whether an item has a property of a type.
 fn has_kind(item: &Item<'_>, kind: FourCc) -> bool
     ensures { result ≡ has_kind_stated kind (item_of item.now) }
 {
-    item.props.as_slice().iter().any(|held| held.prop.kind == kind)
+    item.props
+        .as_slice()
+        .iter()
+        .any(|held| held.prop.kind == kind)
 }
 
 /// Whether an item has an essential property of a type.
@@ -102,10 +108,7 @@ fn against_primary(item: &Item<'_>) -> Option<Reason>
 fn against_hiding(store: &Store<'_>, id: u32) -> Option<Reason>
     ensures { result ≡ (when (store.now.primary == id) Reason.IsPrimary or_else None) }
 {
-    if id == store.primary() {
-        return Some(Reason::IsPrimary);
-    }
-    None
+    (id == store.primary()).then_some(Reason::IsPrimary)
 }
 
 /// The first reason why properties do not go from an item.
