@@ -1,11 +1,14 @@
 -- The store of the test.
-use Rattle.std.proofs.Common.{◌≡◌, ℕ, List, [], ◌∷◌, ◌++◌, length, refl, ap, ◌∙◌, arith, cond}
-use Rattle.std.specs.Prelude.{◌==◌, map, slice_get}
+use Rattle.std.proofs.Common.{◌≡◌, ℕ, List, [], ◌∷◌, ◌++◌, length, refl, ap, ◌∙◌, arith, cond, Result, Ok, Err}
+use Rattle.std.specs.Prelude.{◌==◌, map, slice_get, IfOk}
+use Rattle.hf_base.specs.Reading.{MatchOpen}
+use Rattle.hf_base.specs.declared.fault.OpenFault.{OpenFault}
 use Rattle.std.proofs.lemmas.List.{length-map}
 use Rattle.hf_links.specs.Grpl.{groups_of}
 use Rattle.hf_links.specs.declared.grpl.Group.{Group}
 use Rattle.hf_store.specs.Derived.{input_pairs}
 use Rattle.hf_store.specs.Layout.{own}
+use Rattle.hf_store.specs.LimitFaults.{limits_fault}
 use Rattle.hf_store.specs.Seen.{item_of, items_of}
 use Rattle.hf_store.specs.Store.{Item as Stated, Group as StatedGroup, ItemStore}
 use Rattle.hf_store.specs.Table.{table_of}
@@ -33,6 +36,11 @@ parts_are items one none first second groups e f g same_first same_second same_g
     let made : List Stated → List StatedGroup → ItemStore = λ is gs. record { brands = heic; primary = 2; items = is; groups = gs } in
     let both : items ≡ first ∷ second ∷ [] = e ∙ ap (λ is. is ++ second ∷ []) (f ∙ ap (λ is. is ++ first ∷ []) g) in
     ap (λ is. made (items_of is) (groups_of groups)) both ∙ (λ j. made (same_first j ∷ same_second j ∷ []) (same_groups j))
+
+-- the store that is built of them
+pub built_is : (r : Result ItemStore OpenFault) (s : ItemStore) → s ≡ tiled → MatchOpen r (λ t. (t ≡ s) × (limits_fault s ≡ Ok tt)) (λ why. limits_fault s ≡ Err why) → IfOk r (λ t. t ≡ tiled)
+built_is (Ok t) s same built = built.0 ∙ same
+built_is (Err why) s same built = tt
 
 -- the property of its second item has the number 2
 pub second_number : (s : ItemStore) (p : Planned) → s ≡ tiled → IsPlan s p → IsNumber p 1 0 2

@@ -138,7 +138,7 @@ fn sizes_by(long: bool, wide: bool, kinds: usize, props: u64, counts: Counts) ->
     requires few { AreFew counts }
     requires props { props ≤ limits.META }
     ensures value { result ≡ stated_sizes long wide kinds props counts }
-    ensures bound { result.meta + result.mdat ≤ 2 ^ 40 }
+    ensures bound { result.meta + result.mdat ≤ 2 ^ 41 }
 {
     let iinf = iinf_size(wide, counts);
     let iref = iref_size(wide, counts);
@@ -165,7 +165,7 @@ fn sizes_by(long: bool, wide: bool, kinds: usize, props: u64, counts: Counts) ->
 /// The boxes of a store, with offsets of eight bytes where `long` and of four otherwise.
 pub(crate) fn sizes_with(store: &Store<'_>, long: bool) -> Sizes
     ensures value { result ≡ sizes_of long store.now }
-    ensures bound { result.meta + result.mdat ≤ 2 ^ 40 }
+    ensures bound { result.meta + result.mdat ≤ 2 ^ 41 }
 {
     let counts = store.counts();
     let wide = counts.wide > 0;
@@ -174,7 +174,7 @@ pub(crate) fn sizes_with(store: &Store<'_>, long: bool) -> Sizes
 
 /// The whole file with these boxes.
 pub(crate) fn file_size(store: &Store<'_>, sizes: &Sizes) -> u64
-    requires { sizes.now.meta + sizes.now.mdat ≤ 2 ^ 40 }
+    requires { sizes.now.meta + sizes.now.mdat ≤ 2 ^ 41 }
     ensures { result ≡ box_len (8 + length store.now.brands.compatible) + sizes.now.meta + sizes.now.mdat }
 {
     boxed(8 + store.brands().compatible.len() as u64) + sizes.meta + sizes.mdat

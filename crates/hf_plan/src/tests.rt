@@ -7,7 +7,7 @@ ghost use Rattle.hf_plan.specs.TestStores.{tile as stated_tile, grid as stated_g
 
 use super::*;
 use hf_base::kinds::{DIMG, GRID, ISPE};
-use hf_base::{FourCc, Ids, NoMemory, Series};
+use hf_base::{FourCc, Ids, NoMemory, OpenFault, Series};
 use hf_head::Brands;
 use hf_links::Group;
 use hf_pieces::Pieces;
@@ -103,14 +103,14 @@ fn pair(alloc: Global) -> Result<GroupList<'static>, NoMemory>
 }
 
 /// The store of these.
-fn tiled(alloc: Global) -> Result<Store<'static>, NoMemory>
+fn tiled(alloc: Global) -> Result<Store<'static>, OpenFault>
     ensures { IfOk result (λ s. s ≡ stated) }
 {
     let mut items = Series::new(alloc);
     items.push(tile(alloc)?)?;
     items.push(grid(alloc)?)?;
     let groups = pair(alloc)?;
-    Store::of(
+    Store::build(
         alloc,
         Parts {
             brands: Brands {

@@ -24,7 +24,7 @@ use Rattle.hf_read.proofs.Filters.{some_length, passes, passed}
 
 -- ---- a type in its place
 
-is_less : (o : Ordering) → is_lt o ≡ true → o ≡ Less
+pub is_less : (o : Ordering) → is_lt o ≡ true → o ≡ Less
 is_less Less e = refl
 is_less Equal e = absurd cc
 is_less Greater e = absurd cc
@@ -122,7 +122,7 @@ box_kind : (from : ℕ) (links : List RefBox) (b : RefBox) → IsIn b links → 
 box_kind from links b among kept =
     fold_in b.kind [] (map (λ (r : RefBox). r.kind) (filter (is_kept_link from) links)) (inr (in_map (λ (r : RefBox). r.kind) (filter (is_kept_link from) links) b (passes (is_kept_link from) links b among kept)))
 
-not_iloc : (from : ℕ) (b : RefBox) → is_kept_link from b ≡ true → b.kind ≢ ILOC
+pub not_iloc : (from : ℕ) (b : RefBox) → is_kept_link from b ≡ true → b.kind ≢ ILOC
 not_iloc from b kept e =
     let p = and_parts (eqb b.from from) (not (is_kind b.kind ILOC)) kept in
     let t = same_kind b.kind ILOC e in

@@ -1,8 +1,12 @@
 pub mod Cuts
 pub mod Denotes
 pub mod Faults
+pub mod Items
 pub mod Kept
+pub mod Level
+pub mod Opening
 pub mod Reading
+pub mod References
 pub mod Rising
 pub mod Seen
 pub mod SmallFiles

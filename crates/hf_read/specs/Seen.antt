@@ -1,12 +1,16 @@
 -- What the types of the code stand for.
-use Rattle.std.specs.Prelude.{◌≡◌, ◌<◌, ◌^◌, IfSome}
+use Rattle.std.specs.Prelude.{◌≡◌, ◌<◌, ◌^◌, IfSome, IsTrue}
 use Rattle.std.specs.Option.{option_map}
+use Rattle.hf_base.specs.Entries.{are_distinct}
+use Rattle.hf_base.specs.Members.{Rises}
 use Rattle.hf_base.specs.declared.four.FourCc.{FourCc}
 use Rattle.hf_base.specs.declared.kinds.TheConstants.{HDLR, PITM, IINF, ILOC, IREF, IPRP, GRPL, IDAT}
 use Rattle.hf_box.specs.Boxes.{box_of, end_of}
 use Rattle.hf_box.specs.declared.view.BoxView.{BoxView}
+use Rattle.hf_extent.specs.Places.{HaveDistinctIds}
 use Rattle.hf_info.specs.Infe.{infos_of}
-use Rattle.hf_links.specs.Grpl.{groups_of}
+use Rattle.hf_links.specs.Grpl.{groups_of, group_ids}
+use Rattle.hf_prop.specs.Ipma.{assoc_ids}
 use Rattle.hf_read.specs.Tables.{Tables, infos_by_id, item_ids}
 use Rattle.hf_read.specs.TopLevel.{Parts}
 use Rattle.hf_read.specs.declared.meta.MetaParts.{MetaParts}
@@ -47,3 +51,10 @@ pub record AreTablesOf (m : MetaTables) (t : Tables) : Type 0 where
   pub links : m.links.items ≡ t.links
   pub iprp : m.iprp ≡ t.iprp
   pub groups : groups_of m.groups.items ≡ t.groups
+
+-- the ids of the items rise, and no two entries of a table have one id
+pub record AreReadable (m : MetaTables) : Type 0 where
+  pub ids : Rises ◌<◌ m.ids.items
+  pub locs : HaveDistinctIds m.locs.items
+  pub assocs : IsTrue (are_distinct (assoc_ids m.iprp.assocs))
+  pub groups : IsTrue (are_distinct (group_ids (groups_of m.groups.items)))

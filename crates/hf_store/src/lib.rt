@@ -11,6 +11,7 @@ mod item;
 pub mod laws;
 pub mod limits;
 pub mod linked;
+mod measuring;
 pub mod plain;
 mod reason;
 mod removal;

@@ -1,7 +1,6 @@
 pub mod Chains
+pub mod Compared
 pub mod Files
 pub mod Fits
-pub mod Made
 pub mod Props
 pub mod Sized
-pub mod TestStores

@@ -12,11 +12,8 @@ mod ipco;
 mod ipma;
 mod iprp;
 mod iref;
-mod making;
+mod matching;
 mod mdat;
 
 pub use file::write;
-pub use making::make;
-
-#[cfg(test)]
-mod tests;
+pub use matching::same;
