@@ -17,7 +17,7 @@ use Rattle.hf_app.specs.Due.{Due, IsDueOf, IsDueOfEdits, answered}
 use Rattle.hf_app.specs.Edits.{IsEdited, IsRefused, stepped}
 use Rattle.hf_text.specs.Words.{Command, Boxes, EditFile}
 use Rattle.hf_text.specs.declared.outcome.Outcome.TheVariants.{Done, Unfit, Refused}
-use Rattle.hf_app.proofs.DenotesLaws.{denotes_one}
+use Rattle.hf_read.proofs.DenotesLaws.{denotes_one}
 
 abbrev pub Stepped : Type 0
 Stepped = Result ItemStore (ℕ × Reason)

@@ -9,7 +9,7 @@ use Rattle.hf_store.specs.Changes.{Edit}
 use Rattle.hf_store.specs.declared.reason.Reason.{Reason}
 use Rattle.hf_text.specs.declared.outcome.Outcome.{Outcome}
 use Rattle.hf_text.specs.declared.outcome.Outcome.TheVariants.{Done, Usage, Unfit, Refused, TooLong}
-use Rattle.hf_app.specs.Denotes.{fault_of}
+use Rattle.hf_read.specs.Reading.{fault_of}
 use Rattle.hf_app.specs.Edits.{IsEdited, IsRefused}
 use Rattle.hf_text.specs.Texts.{rows_text}
 use Rattle.hf_text.specs.Words.{Command, Boxes, EditFile}

@@ -1,4 +1,4 @@
-//! A file after edits: the canonical file of its store.
+//! A file after edits: its store, and the plan of the canonical file.
 
 ghost use Rattle.std.specs.Prelude.{◌≡◌, ◌≤◌, ◌+◌, Ok, Err, Some, None, length, map, OnOk, IfErr};
 ghost use Rattle.hf_base.specs.declared.limits.TheConstants.{FILE, EDITS as MOST};
@@ -7,9 +7,9 @@ ghost use Rattle.hf_text.specs.Commands.{edit_of};
 ghost use Rattle.hf_app.specs.Edits.{Edits, Steps, stepped};
 ghost use Rattle.hf_app.specs.declared.editing.Stop.TheVariants.{NoMemory as no_memory};
 
-use crate::canonical::canonical_file;
-use crate::opening::open_store;
 use hf_base::{NoMemory, OpenFault, ReadRefusal};
+use hf_plan::{Plan, plan};
+use hf_read::open_store;
 use hf_store::{Reason, Store, remove_item};
 use hf_text::EditWord;
 use std::alloc::Global;
@@ -59,8 +59,12 @@ fn apply_all(store: &mut Store<'_>, edits: &[EditWord]) -> Result<(), Stop>
     Ok(())
 }
 
-/// The canonical file of the store that a file denotes, after these edits in order.
-pub fn edited(alloc: Global, file: &[u8], edits: &[EditWord]) -> Result<Vec<u8>, Stop>
+/// The store that a file denotes, after these edits in order, and the plan of its canonical file.
+pub fn edited<'a>(
+    alloc: Global,
+    file: &'a [u8],
+    edits: &[EditWord],
+) -> Result<(Store<'a>, Plan), Stop>
     requires file { length file.now ≤ FILE }
     requires edits { length edits.now ≤ MOST }
     ensures { Edits file.now (map edit_of edits.now) result }
@@ -70,6 +74,10 @@ pub fn edited(alloc: Global, file: &[u8], edits: &[EditWord]) -> Result<Vec<u8>,
         Err(OpenFault::Unfit(why)) => return Err(Stop::Unfit(why)),
         Err(OpenFault::NoMemory) => return Err(Stop::NoMemory),
     };
-    apply_all(&mut store, edits)?;
-    Ok(canonical_file(alloc, &store)?)
+    if let Err(why) = apply_all(&mut store, edits) {
+        return Err(why);
+    }
+    store.valid();
+    let plan = plan(alloc, &store)?;
+    Ok((store, plan))
 }
