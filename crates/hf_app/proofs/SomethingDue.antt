@@ -12,17 +12,20 @@ use Rattle.hf_store.specs.Changes.{Edit, step, why}
 use Rattle.hf_store.specs.declared.reason.Reason.{Reason}
 use Rattle.hf_store.proofs.CutValid.{steps_keep_validity}
 use Rattle.hf_plan.specs.Canon.{Canon}
-use Rattle.hf_plan.specs.Plan.{IsPlan, Planned}
 use Rattle.hf_plan.proofs.OneFile.{has_canon}
 use Rattle.hf_canon.proofs.Denoting.{canon_denotes}
 use Rattle.hf_read.specs.Denotes.{DenotesWithin}
 use Rattle.hf_read.specs.Reading.{fault_in, fault_of, reading}
 use Rattle.hf_read.proofs.ReadingLaws.{no_fault_denotes}
-use Rattle.hf_app.specs.Due.{Due, IsDueOf, IsDueOfFile, IsDueOfEdits, answered, due_of_rows}
-use Rattle.hf_app.specs.Edits.{unless, stepped, IsEdited, IsPlanned}
-use Rattle.hf_text.specs.Words.{Command, Boxes, EditFile}
+use Rattle.hf_app.specs.Due.{Due, IsDueOf, IsDueOfFile, IsDueOfEdits, IsDueOfList, answered, due_of_rows}
+use Rattle.hf_app.specs.Edits.{unless, stepped, IsEdited, Steps, Stops}
+use Rattle.hf_app.specs.declared.editing.Stop.{Stop}
+use Rattle.hf_app.specs.declared.editing.Stop.TheVariants as stops
+use Rattle.hf_app.specs.Listed.{IsListed}
+use Rattle.hf_text.specs.Listing.{listing_text}
+use Rattle.hf_text.specs.Words.{Command, Boxes, ListFile, EditFile}
 use Rattle.hf_text.specs.declared.outcome.Outcome.TheVariants.{Unfit, Refused, TooLong}
-use Rattle.hf_app.proofs.DueLaws.{Stepped, made}
+use Rattle.hf_app.proofs.DueLaws.{Stepped, made, said}
 
 -- ---- edits keep validity
 
@@ -56,6 +59,12 @@ pub left_valid : (edits : List Edit) (s after : ItemStore) → Valid s → stepp
 unfolding Keeps
 left_valid edits s after valid steps = keeps_all edits 1 s after valid steps
 
+-- edits stop at the first that is refused
+pub steps_stop : (file : List ℕ) (edits : List Edit) (s after : ItemStore) (stop : Stop) → DenotesWithin file s → fault_of file ≡ None → Steps s edits (Err stop) after → Stops file edits stop
+steps_stop file edits s after (stops.Unfit fault) denoted none steps = absurd steps
+steps_stop file edits s after (stops.Refused n reason) denoted none steps = record { store = s; denoted = denoted.0; sound = none; steps = steps }
+steps_stop file edits s after stops.NoMemory denoted none steps = absurd steps
+
 -- the canonical file of what is left is what the edits make of a file
 pub edits_make : (file : List ℕ) (edits : List Edit) (s after : ItemStore) → DenotesWithin file s → fault_of file ≡ None → stepped 1 s edits ≡ Ok after
     → (bytes : List ℕ) → Canon after bytes → IsEdited file edits bytes
@@ -88,8 +97,19 @@ due_of_edits file out edits fits small None none =
     let p = (no_fault_denotes file fits small).0 none in
     due_of_steps file out edits p.0 p.1 none (stepped 1 p.0 edits) refl
 
+-- the listing of what is denoted
+pub list_said : (file : List ℕ) (s : ItemStore) → DenotesWithin file s → fault_of file ≡ None → IsListed file (listing_text s)
+list_said file s denoted none = record { store = s; denoted = denoted.0; sound = none; listed = refl }
+
+due_of_list : (file : List ℕ) → IsBytes file → length file ≤ FILE → (o : Option ReadRefusal) → fault_of file ≡ o → (d : Due) × IsDueOfList file d
+due_of_list file fits small (Some fault) some = (answered (Unfit 0 fault), inl (fault, some, refl))
+due_of_list file fits small None none =
+    let p = (no_fault_denotes file fits small).0 none in
+    (said (listing_text p.0), inr (listing_text p.0, list_said file p.0 p.1 none, refl))
+
 due_of_file : (command : Command) (file : List ℕ) → IsBytes file → length file ≤ FILE → (d : Due) × IsDueOfFile command file d
 due_of_file (Boxes input) file fits small = (due_of_rows (walk_at file), refl)
+due_of_file (ListFile input) file fits small = due_of_list file fits small (fault_of file) refl
 due_of_file (EditFile input out edits) file fits small = due_of_edits file out edits fits small (fault_of file) refl
 
 pub something_due : (command : Command) (file : List ℕ) → IsBytes file → (d : Due) × IsDueOf command file d

@@ -6,7 +6,7 @@ use Rattle.hf_store.specs.declared.reason.Reason.{Reason}
 use Rattle.hf_store.specs.Valid.{Valid}
 use Rattle.hf_plan.specs.Canon.{Canon}
 use Rattle.hf_plan.specs.Plan.{IsPlan, Planned}
-use Rattle.hf_read.specs.Denotes.{Denotes}
+use Rattle.hf_read.specs.Denotes.{Denotes, DenotesWithin}
 use Rattle.hf_read.specs.Reading.{fault_of}
 use Rattle.hf_app.specs.declared.editing.Stop.{Stop}
 use Rattle.hf_app.specs.declared.editing.Stop.TheVariants.{Unfit, Refused, NoMemory}
@@ -53,6 +53,13 @@ pub record IsPlanned (file : List ℕ) (edits : List Edit) (after : ItemStore) (
 abbrev pub Edits : List ℕ → List Edit → Result (ItemStore × Planned) Stop → Type 0
 Edits file edits (Ok made) = IsPlanned file edits made.0 made.1
 Edits file edits (Err stop) = Stops file edits stop
+
+-- the store that the file denotes, or its fault
+abbrev pub Opens : List ℕ → Result ItemStore Stop → Type 0
+Opens file (Ok store) = DenotesWithin file store × (fault_of file ≡ None)
+Opens file (Err (Unfit fault)) = fault_of file ≡ Some fault
+Opens file (Err (Refused n reason)) = ⊥
+Opens file (Err NoMemory) = Unit {0}
 
 -- edits were made in order, or the first one that is refused stopped them
 abbrev pub Steps : ItemStore → List Edit → Result (Unit {0}) Stop → ItemStore → Type 0

@@ -4,7 +4,7 @@ ghost use Rattle.std.specs.Prelude.{◌≡◌, ◌≤◌, ◌+◌, Ok, Err, Some
 ghost use Rattle.hf_base.specs.declared.limits.TheConstants.{FILE, EDITS as MOST};
 ghost use Rattle.hf_store.specs.Changes.{step, why};
 ghost use Rattle.hf_text.specs.Commands.{edit_of};
-ghost use Rattle.hf_app.specs.Edits.{Edits, Steps, stepped};
+ghost use Rattle.hf_app.specs.Edits.{Edits, Opens, Steps, stepped};
 ghost use Rattle.hf_app.specs.declared.editing.Stop.TheVariants.{NoMemory as no_memory};
 
 use hf_base::{NoMemory, OpenFault, ReadRefusal};
@@ -59,6 +59,18 @@ fn apply_all(store: &mut Store<'_>, edits: &[EditWord]) -> Result<(), Stop>
     Ok(())
 }
 
+/// The store that a file denotes.
+fn opened<'a>(alloc: Global, file: &'a [u8]) -> Result<Store<'a>, Stop>
+    requires { length file.now ≤ FILE }
+    ensures { Opens file.now result }
+{
+    match open_store(alloc, file) {
+        Ok(store) => Ok(store),
+        Err(OpenFault::Unfit(why)) => Err(Stop::Unfit(why)),
+        Err(OpenFault::NoMemory) => Err(Stop::NoMemory),
+    }
+}
+
 /// The store that a file denotes, after these edits in order, and the plan of its canonical file.
 pub fn edited<'a>(
     alloc: Global,
@@ -69,14 +81,8 @@ pub fn edited<'a>(
     requires edits { length edits.now ≤ MOST }
     ensures { Edits file.now (map edit_of edits.now) result }
 {
-    let mut store = match open_store(alloc, file) {
-        Ok(store) => store,
-        Err(OpenFault::Unfit(why)) => return Err(Stop::Unfit(why)),
-        Err(OpenFault::NoMemory) => return Err(Stop::NoMemory),
-    };
-    if let Err(why) = apply_all(&mut store, edits) {
-        return Err(why);
-    }
+    let mut store = opened(alloc, file)?;
+    apply_all(&mut store, edits)?;
     store.valid();
     let plan = plan(alloc, &store)?;
     Ok((store, plan))

@@ -3,14 +3,15 @@
 ghost use Rattle.std.specs.Prelude.{◌≡◌, ℕ, List};
 ghost use Rattle.hf_base.specs.Number.{IsBytes};
 ghost use Rattle.hf_desk.specs.Outside.{Outside};
-ghost use Rattle.hf_desk.specs.Calls.{IfTold};
-ghost use Rattle.hf_desk.specs.Making.{IsMade};
+ghost use Rattle.hf_desk.specs.Calls.{IfTold, Said};
+ghost use Rattle.hf_desk.specs.Making.{IsMade, IsUnmade};
 ghost use Rattle.hf_store.specs.Changes.{Edit};
 ghost use Rattle.hf_app.specs.Answers.{Ends};
 ghost use Rattle.hf_app.specs.Due.{Due, IsDueOf};
 ghost use Rattle.hf_app.specs.Edits.{IsEdited};
+ghost use Rattle.hf_app.specs.Listed.{IsListed};
 ghost use Rattle.hf_text.specs.declared.outcome.Outcome.TheVariants.{Done};
-ghost use Rattle.hf_text.specs.Words.{Command, EditFile};
+ghost use Rattle.hf_text.specs.Words.{Command, ListFile, EditFile};
 
 /// Whatever is due of the input of a command, nothing else is.
 pub fn one_thing_is_due()
@@ -20,6 +21,13 @@ pub fn one_thing_is_due()
 /// Something is due of the input of a command, whatever bytes it has.
 pub fn something_is_due()
     ensures { (command : Command) (file : List ℕ) → IsBytes file → (d : Due) × IsDueOf command file d }
+{}
+
+/// Where `list` ends `Done` and the files are told, the input is there and denotes a store, and what
+/// was said is the listing of that store.
+pub fn list_says_the_listing()
+    ensures { (input : List ℕ) (old new : Outside) → Ends (ListFile input) Done old new
+        → IfTold old input (λ file. (text : List ℕ) × IsListed file text × IsUnmade old new × Said old text new) }
 {}
 
 /// Two runs whose stores after their edits are equal make equal bytes.

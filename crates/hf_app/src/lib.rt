@@ -6,11 +6,12 @@ mod edit;
 mod editing;
 mod input;
 pub mod laws;
+mod list;
 mod making;
 mod stopping;
 mod top;
 
 pub use editing::{Stop, edited};
 pub use making::make_canonical;
-pub use hf_text::{Command, EditWord, Outcome, WordsFault, line_of, read_words, say_rows, status};
+pub use hf_text::{Command, EditWord, Outcome, WordsFault, line_of, read_words, say_list, say_rows, status};
 pub use top::run;

@@ -1,9 +1,8 @@
 //! The canonical file of a store, made.
 
-ghost use Rattle.std.specs.Prelude.{◌≡◌, ℕ, List, false};
-ghost use Rattle.hf_desk.specs.Making.{Makes};
-ghost use Rattle.hf_plan.specs.Canon.{Canon};
+ghost use Rattle.std.specs.Prelude.{◌≡◌, false};
 ghost use Rattle.hf_plan.specs.Plan.{IsPlan};
+ghost use Rattle.hf_app.specs.Making.{MakesCanon};
 
 use hf_desk::{Desk, Failed, WriteFault};
 use hf_plan::Plan;
@@ -21,8 +20,9 @@ pub fn make_canonical<D: Desk>(
 ) -> Result<(), WriteFault>
     requires creating { (D.outside desk.old).creating ≡ false }
     requires plan { IsPlan store.now plan.now }
-    ensures { (file : List ℕ) → Canon store.now file → Makes (D.outside desk.old) name.now file result (D.outside desk.new) }
+    ensures { MakesCanon store.now (D.outside desk.old) name.now result (D.outside desk.new) }
 {
+    store.valid();
     match desk.create(name) {
         Ok(()) => write(store, plan, desk),
         Err(Failed) => Err(WriteFault),

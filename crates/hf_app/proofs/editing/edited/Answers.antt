@@ -1,20 +1,18 @@
-use Rattle.std.proofs.Common.{rules, sym, ap, ◌∙◌}
-use Rattle.std.specs.Prelude.{map, Err}
+use Rattle.std.specs.Prelude.{map}
+use Rattle.std.proofs.Common.{rules}
+use Rattle.std.proofs.lemmas.Result.{err_from_is_err_and}
 use Rattle.hf_text.specs.Commands.{edit_of}
-use Rattle.hf_base.specs.declared.fault.ReadRefusal.{ReadRefusal}
-use Rattle.hf_read.specs.Reading.{reading}
-use Rattle.hf_app.proofs.SomethingDue.{no_fault, fault_told, left_valid, edits_make}
+use Rattle.hf_app.proofs.SomethingDue.{left_valid, edits_make, steps_stop}
 use Rattle.hf_app.proofs.editing.edited.Goals as goal
 
-pub returns-in-Err-Unfit : goal.returns-in-Err-Unfit
-returns-in-Err-Unfit c = fault_told c.args.file.now _ (rw c.in-Err-Unfit.is at c.in-Err-Unfit.ensures.exact)
+pub returns-in_err-apply_all : goal.returns-in_err-apply_all
+returns-in_err-apply_all c =
+    let p = err_from_is_err_and c.from_residual-in_err-apply_all.result c.from_residual-in_err-apply_all.ensures.1 in
+    rw (p.1, p.2) (steps_stop c.args.file.now (map edit_of c.args.edits.now) c.in_ok-store.store c.apply_all.new.store c.in_err-apply_all.field-0.0 c.in_ok-store.ensures.0 c.in_ok-store.ensures.1 c.in_err-apply_all.ensures)
 
 pub returns : goal.returns
-returns c =
-    let edits = map edit_of c.args.edits.now in
-    let none = no_fault c.args.file.now c.in-Ok.store c.in-Ok.ensures.exact in
-    record {
-      valid = search rules;
-      planned = search rules;
-      made = edits_make c.args.file.now edits c.in-Ok.store c.apply_all.new.store c.in-Ok.ensures.found none c.apply_all.ensures;
-    }
+returns c = record {
+  valid = c.valid.ensures;
+  planned = search rules;
+  made = edits_make c.args.file.now (map edit_of c.args.edits.now) c.in_ok-store.store c.apply_all.new.store c.in_ok-store.ensures.0 c.in_ok-store.ensures.1 c.in_ok-apply_all.ensures;
+}
