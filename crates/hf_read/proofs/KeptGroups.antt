@@ -37,10 +37,16 @@ same_ids : (ids : List ℕ) (groups : List Group) → map id_of (map (left_of id
 same_ids ids [] = refl
 same_ids ids (g ∷ gs) = ap (λ (l : List ℕ). g.id ∷ l) (same_ids ids gs)
 
-pub groups_rise : (ids : List ℕ) (groups : List Group) → are_distinct (map (λ (g : Group). g.id) groups) ≡ true → Rises ◌<◌ (map (λ (g : Group). g.id) (kept_groups ids groups))
+-- what is left of those that are kept
+pub left_distinct : (ids : List ℕ) (groups : List Group) → are_distinct (map (λ (g : Group). g.id) groups) ≡ true
+    → are_distinct (map (λ (g : Group). g.id) (map (left_of ids) (filter (is_kept_group ids) groups))) ≡ true
+left_distinct ids groups distinct =
+    ap are_distinct (same_ids ids (filter (is_kept_group ids) groups)) ∙ distinct_filter (is_kept_group ids) groups distinct
+
+pub groups_rise : (ids : List ℕ) (groups : List Group) → are_distinct (map (λ (g : Group). g.id) groups) ≡ true
+    → Rises ◌<◌ (map (λ (g : Group). g.id) (kept_groups ids groups))
 unfolding kept_groups
-groups_rise ids groups distinct =
-    rising_rises id_of (map (left_of ids) (filter (is_kept_group ids) groups)) (ap are_distinct (same_ids ids (filter (is_kept_group ids) groups)) ∙ distinct_filter (is_kept_group ids) groups distinct)
+groups_rise ids groups distinct = rising_rises id_of (map (left_of ids) (filter (is_kept_group ids) groups)) (left_distinct ids groups distinct)
 
 -- ---- each group
 

@@ -1,5 +1,7 @@
+pub mod AssocLaws
 pub mod Bytes
 pub mod DenotesLaws
+pub mod DerivedLaws
 pub mod Filters
 pub mod FirstFaults
 pub mod ItemLaws
@@ -8,7 +10,10 @@ pub mod KeptProps
 pub mod KeptRefs
 pub mod LeastLaws
 pub mod LimitLaws
+pub mod LoopLemmas
+pub mod MadeItems
 pub mod Opened
+pub mod OpeningLaws
 pub mod PartFaults
 pub mod ReadLaws
 pub mod ReadingLaws

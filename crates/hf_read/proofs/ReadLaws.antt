@@ -1,12 +1,14 @@
 -- A file that is read from left to right without a fault, by its parts.
-use Rattle.std.proofs.Common.{◌≡◌, ℕ, ◌+◌, ◌≤◌, Bool, true, false, ltb, List, [], ◌∷◌, ◌++◌, length, drop, Ok, Err, Option, Some, refl, sym, ap, subst, ◌∙◌, inl, inr}
+use Rattle.std.proofs.Common.{◌≡◌, ℕ, ◌+◌, ◌≤◌, Bool, true, false, ltb, List, [], ◌∷◌, ◌++◌, length, drop, Result, Ok, Err, Option, Some, refl, sym, ap, subst, ◌∙◌, inl, inr}
 use Rattle.std.proofs.lemmas.Bool.{cases_Bool, ltb-false, le-ltb}
 use Rattle.hf_base.specs.LocationFaults.{locations_fault}
 use Rattle.hf_base.specs.Members.{IsIn}
 use Rattle.hf_base.specs.Number.{IsBytes}
 use Rattle.hf_base.specs.Placed.{ArePlaced}
+use Rattle.hf_base.specs.Reading.{◌>>=◌}
 use Rattle.hf_base.specs.ReadingLaws.{bind_ok, chosen, ok_is, IsBytes-drop}
 use Rattle.hf_base.specs.declared.four.FourCc.{FourCc}
+use Rattle.hf_base.specs.declared.fault.ReadRefusal.{ReadRefusal}
 use Rattle.hf_base.specs.declared.fault.ReadRefusal.TheVariants.{BadRecord}
 use Rattle.hf_base.specs.declared.kinds.TheConstants.{FTYP, META, HDLR, PITM, IINF, ILOC, IREF, IPRP, GRPL}
 use Rattle.hf_base.specs.declared.limits.TheConstants.{BOXES, ROWS}
@@ -30,6 +32,7 @@ use Rattle.hf_store.specs.Store.{ItemStore}
 use Rattle.hf_read.specs.Denotes.{NeedsAreItems, PicksAreProps, LinksWithin, PropsWithin, GroupsWithin}
 use Rattle.hf_store.specs.LimitFaults.{limits_fault}
 use Rattle.hf_read.specs.Faults.{no_primary_fault, dangling_need_fault, bad_property_fault, derived_fault}
+use Rattle.hf_read.specs.Opening.{IsMetaOf, IsStoreOf}
 use Rattle.hf_read.specs.Reading.{idat_of, store_at, tables_at, checked, reading_parts, reading}
 use Rattle.hf_read.specs.Tables.{Tables, AreLocs, AreLinks, AreProps, AreGroups, locs_in, links_in, iprp_in, groups_in, item_ids, items_in}
 use Rattle.hf_read.specs.TopLevel.{first_of, IsTopLevel, has_mif1, top_of, Parts, AreParts, parts_of}
@@ -53,7 +56,7 @@ pub record AreTables (parts : Parts) (primary : ℕ) (t : Tables) : Type 0 where
   pub groups : AreGroups parts.grpl t.groups
   pub few_groups : GroupsWithin parts.grpl t.groups
 
--- what is known of a file that was read as this store
+-- what is known of a file that was read as this store, before its limits are looked at
 pub record IsRead (F : List ℕ) (s : ItemStore) : Type 0 where
   pub top : List BoxAt
   pub boxes : IsBoxes F 0 true top
@@ -76,7 +79,6 @@ pub record IsRead (F : List ℕ) (s : ItemStore) : Type 0 where
   pub placed : ArePlaced F (idat_of parts) (items_in tables)
   pub is : s ≡ store_at F (idat_of parts) s.brands s.primary tables
   pub derived : derived_fault s.items ≡ Ok tt
-  pub limits : limits_fault s ≡ Ok tt
 
 -- ---- the bodies of boxes are bytes
 
@@ -165,17 +167,7 @@ tables_again parts primary t h =
 
 -- ---- what is read behind the boxes of `meta`
 
-record PartsRead (F : List ℕ) (brands : Brands) (parts : Parts) (s : ItemStore) : Type 0 where
-  picture : hdlr_at parts.hdlr.at parts.hdlr.body ≡ fine
-  primary : pitm_at parts.pitm.at parts.pitm.body ≡ Ok s.primary
-  tables : Tables
-  are_tables : tables_at s.primary parts ≡ Ok tables
-  placed : locations_fault F (idat_of parts) (items_in tables) ≡ fine
-  is : s ≡ store_at F (idat_of parts) brands s.primary tables
-  derived : derived_fault s.items ≡ fine
-  limits : limits_fault s ≡ fine
-
-store_primary : (F : List ℕ) (idat : Option (List ℕ)) (brands : Brands) (primary : ℕ) (t : Tables) → (store_at F idat brands primary t).primary ≡ primary
+pub store_primary : (F : List ℕ) (idat : Option (List ℕ)) (brands : Brands) (primary : ℕ) (t : Tables) → (store_at F idat brands primary t).primary ≡ primary
 unfolding store_at
 store_primary F idat brands primary t = refl
 
@@ -183,7 +175,8 @@ pub store_brands : (F : List ℕ) (idat : Option (List ℕ)) (brands : Brands) (
 unfolding store_at
 store_brands F idat brands primary t = refl
 
-parts_taken : (F : List ℕ) (brands : Brands) (parts : Parts) (s : ItemStore) → reading_parts F brands parts ≡ Ok s → PartsRead F brands parts s
+parts_taken : (F : List ℕ) (brands : Brands) (parts : Parts) (s : ItemStore) → reading_parts F brands parts ≡ Ok s
+    → IsStoreOf F brands parts s × (limits_fault s ≡ fine)
 unfolding reading_parts checked
 parts_taken F brands parts s h =
     let a = bind_ok (hdlr_at parts.hdlr.at parts.hdlr.body) _ s h in
@@ -195,7 +188,7 @@ parts_taken F brands parts s h =
     let f = bind_ok (limits_fault made) _ s e.2 in
     let same : s ≡ made = sym (ok_is made s f.2) in
     let first : s.primary ≡ b.0 = ap (λ (x : ItemStore). x.primary) same ∙ store_primary F (idat_of parts) brands b.0 c.0 in
-    record {
+    let is : IsStoreOf F brands parts s = record {
       picture = a.1;
       primary = b.1 ∙ ap (λ (n : ℕ). Ok n) (sym first);
       tables = c.0;
@@ -203,75 +196,97 @@ parts_taken F brands parts s h =
       placed = d.1;
       is = same ∙ ap (λ (n : ℕ). store_at F (idat_of parts) brands n c.0) (sym first);
       derived = ap (λ (x : ItemStore). derived_fault x.items) same ∙ e.1;
-      limits = ap limits_fault same ∙ f.1;
-    }
+    } in
+    (is, ap limits_fault same ∙ f.1)
 
-checked_again : (s : ItemStore) → derived_fault s.items ≡ fine → limits_fault s ≡ fine → checked s ≡ Ok s
+-- the store, unless its limits have a fault
+abbrev pub limited : ItemStore → Result ItemStore ReadRefusal
+limited s = limits_fault s >>= λ kept. Ok s
+
+checked_again : (s : ItemStore) → derived_fault s.items ≡ fine → checked s ≡ limited s
 unfolding checked
-checked_again s d l = rw (d, l) refl
+checked_again s d = rw d refl
 
-parts_again : (F : List ℕ) (brands : Brands) (parts : Parts) (s : ItemStore) → PartsRead F brands parts s → reading_parts F brands parts ≡ Ok s
+parts_again : (F : List ℕ) (brands : Brands) (parts : Parts) (s : ItemStore) → IsStoreOf F brands parts s → reading_parts F brands parts ≡ limited s
 unfolding reading_parts
 parts_again F brands parts s p =
-    let last : checked (store_at F (idat_of parts) brands s.primary p.tables) ≡ Ok s = ap checked (sym p.is) ∙ checked_again s p.derived p.limits in
+    let last : checked (store_at F (idat_of parts) brands s.primary p.tables) ≡ limited s = ap checked (sym p.is) ∙ checked_again s p.derived in
     rw (p.picture, p.primary, p.are_tables, p.placed) last
 
 -- ---- the whole
 
-pub is_read : (F : List ℕ) (s : ItemStore) → IsBytes F → reading F ≡ Ok s → IsRead F s
+pub store_read : (F : List ℕ) (brands : Brands) (parts : Parts) (s : ItemStore) → IsBytes F → IsMetaOf F brands parts → IsStoreOf F brands parts s → IsRead F s
+store_read F brands parts s fits m p =
+    let top = frames_spell BOXES true 0 F m.boxes fits m.framed in
+    let opens = top_opens m.boxes (brands, m.meta) m.top in
+    let meta_bytes : IsBytes m.meta.body = bytes_of_one F 0 true m.boxes META m.meta fits top.0 opens.level.one_meta in
+    let ftyp_bytes : IsBytes opens.ftyp.body = bytes_of_one F 0 true m.boxes FTYP opens.ftyp fits top.0 opens.level.one_ftyp in
+    let inner_bytes = IsBytes-drop 4 m.meta.body meta_bytes in
+    let ch = children_are m.meta m.children m.inner in
+    let place = m.meta.at + m.meta.head + 4 in
+    let kids = frames_spell BOXES false place (drop 4 m.meta.body) m.children inner_bytes ch.1 in
+    let are = parts_are m.children parts m.are_parts in
+    let bytes : HaveBytes m.children = λ k x. bytes_of_first (drop 4 m.meta.body) place false m.children k x inner_bytes kids.0 in
+    let same : brands ≡ s.brands = sym (ap (λ (x : ItemStore). x.brands) p.is ∙ store_brands F (idat_of parts) brands s.primary p.tables) in
+    record {
+      top = m.boxes;
+      boxes = top.0;
+      few_top = top.1;
+      ftyp = opens.ftyp;
+      meta = m.meta;
+      level = opens.level;
+      brands = subst (λ (x : Brands). IsFtyp opens.ftyp.body x) same (ftyp_found opens.ftyp.at opens.ftyp.body brands ftyp_bytes opens.brands_are);
+      mif1 = ap has_mif1 (sym same) ∙ opens.mif1;
+      children = m.children;
+      full = ch.0;
+      inner = kids.0;
+      few_children = kids.1;
+      parts = parts;
+      are_parts = are;
+      picture = hdlr_found parts.hdlr.at parts.hdlr.body (bytes HDLR parts.hdlr (first_from HDLR m.children parts.hdlr are.hdlr)) p.picture;
+      primary = pitm_found parts.pitm.at parts.pitm.body s.primary (bytes PITM parts.pitm (first_from PITM m.children parts.pitm are.pitm)) p.primary;
+      tables = p.tables;
+      are_tables = tables_take m.children parts s.primary p.tables bytes are p.are_tables;
+      placed = placed F (idat_of parts) (items_in p.tables) p.placed;
+      is = p.is ∙ ap (λ (x : Brands). store_at F (idat_of parts) x s.primary p.tables) same;
+      derived = p.derived;
+    }
+
+pub store_again : (F : List ℕ) (brands : Brands) (parts : Parts) (s : ItemStore) → IsMetaOf F brands parts → IsStoreOf F brands parts s → reading F ≡ limited s
+unfolding reading
+store_again F brands parts s m p = rw (m.framed, m.top, m.inner, m.are_parts) (parts_again F brands parts s p)
+
+pub fault_again : (F : List ℕ) (brands : Brands) (parts : Parts) (e : ReadRefusal) → IsMetaOf F brands parts → reading_parts F brands parts ≡ Err e
+    → reading F ≡ Err e
+unfolding reading
+fault_again F brands parts e m h = rw (m.framed, m.top, m.inner, m.are_parts) h
+
+pub is_read : (F : List ℕ) (s : ItemStore) → IsBytes F → reading F ≡ Ok s → IsRead F s × (limits_fault s ≡ fine)
 unfolding reading
 is_read F s fits h =
     let a = bind_ok (frames true 0 F) _ s h in
     let b = bind_ok (top_of a.0) _ s a.2 in
     let c = bind_ok (children_at b.0.1) _ s b.2 in
     let d = bind_ok (parts_of c.0) _ s c.2 in
-    let top = frames_spell BOXES true 0 F a.0 fits a.1 in
-    let opens = top_opens a.0 b.0 b.1 in
-    let meta_bytes : IsBytes b.0.1.body = bytes_of_one F 0 true a.0 META b.0.1 fits top.0 opens.level.one_meta in
-    let ftyp_bytes : IsBytes opens.ftyp.body = bytes_of_one F 0 true a.0 FTYP opens.ftyp fits top.0 opens.level.one_ftyp in
-    let inner_bytes = IsBytes-drop 4 b.0.1.body meta_bytes in
-    let ch = children_are b.0.1 c.0 c.1 in
-    let place = b.0.1.at + b.0.1.head + 4 in
-    let kids = frames_spell BOXES false place (drop 4 b.0.1.body) c.0 inner_bytes ch.1 in
-    let parts = parts_are c.0 d.0 d.1 in
     let p = parts_taken F b.0.0 d.0 s d.2 in
-    let bytes : HaveBytes c.0 = λ k x. bytes_of_first (drop 4 b.0.1.body) place false c.0 k x inner_bytes kids.0 in
-    let same : b.0.0 ≡ s.brands = sym (ap (λ (x : ItemStore). x.brands) p.is ∙ store_brands F (idat_of d.0) b.0.0 s.primary p.tables) in
-    record {
-      top = a.0;
-      boxes = top.0;
-      few_top = top.1;
-      ftyp = opens.ftyp;
-      meta = b.0.1;
-      level = opens.level;
-      brands = subst (λ (x : Brands). IsFtyp opens.ftyp.body x) same (ftyp_found opens.ftyp.at opens.ftyp.body b.0.0 ftyp_bytes opens.brands_are);
-      mif1 = ap has_mif1 (sym same) ∙ opens.mif1;
-      children = c.0;
-      full = ch.0;
-      inner = kids.0;
-      few_children = kids.1;
-      parts = d.0;
-      are_parts = parts;
-      picture = hdlr_found d.0.hdlr.at d.0.hdlr.body (bytes HDLR d.0.hdlr (first_from HDLR c.0 d.0.hdlr parts.hdlr)) p.picture;
-      primary = pitm_found d.0.pitm.at d.0.pitm.body s.primary (bytes PITM d.0.pitm (first_from PITM c.0 d.0.pitm parts.pitm)) p.primary;
-      tables = p.tables;
-      are_tables = tables_take c.0 d.0 s.primary p.tables bytes parts p.are_tables;
-      placed = placed F (idat_of d.0) (items_in p.tables) p.placed;
-      is = p.is ∙ ap (λ (x : Brands). store_at F (idat_of d.0) x s.primary p.tables) same;
-      derived = p.derived;
-      limits = p.limits;
-    }
+    let m : IsMetaOf F b.0.0 d.0 = record { boxes = a.0; framed = a.1; meta = b.0.1; top = b.1; children = c.0; inner = c.1; are_parts = d.1 } in
+    (store_read F b.0.0 d.0 s fits m p.0, p.1)
 
-pub read_again : (F : List ℕ) (s : ItemStore) → IsRead F s → reading F ≡ Ok s
-unfolding reading
-read_again F s h =
-    let boxes = boxes_read BOXES true 0 F h.top h.boxes h.few_top in
-    let opens : Opens h.top s.brands h.meta = record { ftyp = h.ftyp; level = h.level; brands_are = ftyp_only h.ftyp.at h.ftyp.body s.brands h.brands; mif1 = h.mif1 } in
-    let top = top_read h.top s.brands h.meta opens in
+pub read_again : (F : List ℕ) (s : ItemStore) → IsRead F s → limits_fault s ≡ fine → reading F ≡ Ok s
+read_again F s h limits =
+    let brands = ftyp_only h.ftyp.at h.ftyp.body s.brands h.brands in
+    let opens : Opens h.top s.brands h.meta = record { ftyp = h.ftyp; level = h.level; brands_are = brands; mif1 = h.mif1 } in
     let inner = boxes_read BOXES false (h.meta.at + h.meta.head + 4) (drop 4 h.meta.body) h.children h.inner h.few_children in
-    let children = children_again h.meta h.children h.full inner in
-    let parts = parts_read h.children h.parts h.are_parts in
-    let read : PartsRead F s.brands h.parts s = record {
+    let m : IsMetaOf F s.brands h.parts = record {
+      boxes = h.top;
+      framed = boxes_read BOXES true 0 F h.top h.boxes h.few_top;
+      meta = h.meta;
+      top = top_read h.top s.brands h.meta opens;
+      children = h.children;
+      inner = children_again h.meta h.children h.full inner;
+      are_parts = parts_read h.children h.parts h.are_parts;
+    } in
+    let p : IsStoreOf F s.brands h.parts s = record {
       picture = hdlr_only h.parts.hdlr.at h.parts.hdlr.body h.picture;
       primary = pitm_only h.parts.pitm.at h.parts.pitm.body s.primary h.primary;
       tables = h.tables;
@@ -279,7 +294,5 @@ read_again F s h =
       placed = no_fault F (idat_of h.parts) (items_in h.tables) h.placed;
       is = h.is;
       derived = h.derived;
-      limits = h.limits;
     } in
-    let rest = parts_again F s.brands h.parts s read in
-    rw (boxes, top, children, parts, rest) refl
+    store_again F s.brands h.parts s m p ∙ rw limits refl

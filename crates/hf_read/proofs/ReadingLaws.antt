@@ -5,14 +5,16 @@ use Rattle.std.specs.Prelude.{◌↔◌}
 use Rattle.hf_base.specs.Members.{IsIn, Rises, RisesFrom}
 use Rattle.hf_base.specs.Number.{IsBytes}
 use Rattle.hf_base.specs.declared.fault.ReadRefusal.{ReadRefusal}
-use Rattle.hf_base.specs.declared.limits.TheConstants.{FILE}
+use Rattle.hf_base.specs.declared.limits.TheConstants.{FILE, LINKS}
 use Rattle.hf_links.specs.Grpl.{Group}
 use Rattle.hf_order.proofs.Members.{in_all}
 use Rattle.hf_store.specs.Store.{Item, ItemStore, ids_of}
+use Rattle.hf_store.specs.LimitFaults.{limits_fault}
 use Rattle.hf_store.specs.Valid.{IsGoodRef, IsGoodItem, Valid}
 use Rattle.hf_read.specs.Denotes.{Denotes, IsWithin, DenotesWithin}
 use Rattle.hf_read.specs.Reading.{idat_of, store_at, reading, fault_in, fault_of}
 use Rattle.hf_read.specs.Tables.{item_ids, infos_by_id}
+use Rattle.hf_read.proofs.FirstFaults.{fine}
 use Rattle.hf_read.proofs.ItemLaws.{ids_zip, zip_items, are_placed}
 use Rattle.hf_read.proofs.ReadLaws.{AreTables, IsRead, is_read, read_again}
 use Rattle.hf_read.proofs.StoreFaults.{KeepsLimits, derived_fine, limits_fine}
@@ -20,8 +22,8 @@ use Rattle.hf_read.proofs.StoreLaws.{has_mif1_of, read_items, read_groups, lead_
 
 -- ---- what was read is denoted
 
-read_denotes : (F : List ℕ) (s : ItemStore) → length F ≤ FILE → IsRead F s → Denotes F s
-read_denotes F s small r = record {
+read_denotes : (F : List ℕ) (s : ItemStore) → length F ≤ FILE → IsRead F s → limits_fault s ≡ fine → Denotes F s
+read_denotes F s small r kept = record {
   top = r.top;
   boxes = r.boxes;
   ftyp = r.ftyp;
@@ -45,13 +47,13 @@ read_denotes F s small r = record {
   picks = r.are_tables.picks;
   items = read_items F s r;
   groups = read_groups F s r;
-  valid = is_valid F s small r;
+  valid = is_valid F s small r kept;
 }
 
-pub read_within : (F : List ℕ) (s : ItemStore) → length F ≤ FILE → IsRead F s → DenotesWithin F s
+pub read_within : (F : List ℕ) (s : ItemStore) → length F ≤ FILE → IsRead F s → limits_fault s ≡ fine → DenotesWithin F s
 unfolding read_denotes
-read_within F s small r =
-    let d = read_denotes F s small r in
+read_within F s small r kept =
+    let d = read_denotes F s small r kept in
     let within : IsWithin F s d = record {
       top = r.few_top;
       children = r.few_children;
@@ -128,16 +130,15 @@ within_read F s (d, w) = record {
   are_tables = tables_are F s d w;
   placed = are_placed F (idat_of d.parts) d.tables s.items d.items w.leaves d.valid.body;
   is = store_is F s d;
-  derived = derived_fine s.items (rises_from 0 (ids_of s.items) d.valid.ids_rise) (lead_to_items s.items (good_item s d.valid)) (λ i h. (good_item s d.valid i h).fits) d.valid.ends;
-  limits = limits_fine s (keeps_limits s d.valid);
+  derived = derived_fine s.items (rises_from 0 (ids_of s.items) d.valid.ids_rise) (lead_to_items LINKS s.items (good_item s d.valid)) (λ i h. (good_item s d.valid i h).fits) d.valid.ends;
 }
 
 -- ---- the laws
 
 pub reading_denotes : (F : List ℕ) (s : ItemStore) → IsBytes F → length F ≤ FILE → DenotesWithin F s ↔ (reading F ≡ Ok s)
 reading_denotes F s fits small = (
-  (λ d. read_again F s (within_read F s d)),
-  (λ h. read_within F s small (is_read F s fits h)),
+  (λ d. read_again F s (within_read F s d) (limits_fine s (keeps_limits s d.0.valid))),
+  (λ h. let r = is_read F s fits h in read_within F s small r.0 r.1),
 )
 
 no_fault_read : (r : Result ItemStore ReadRefusal) → fault_in r ≡ None → (s : ItemStore) × (r ≡ Ok s)

@@ -84,7 +84,7 @@ input_list (r ∷ rs) x h = elim (cases_Bool (is_kind r.kind (four "dimg"))) [
       (p.0, inr p.1, p.2)
 ]
 
-pairs_among : (items : List Item) → LeadToItems items → AreAmong (ids_of items) (input_pairs items)
+pub pairs_among : (items : List Item) → LeadToItems items → AreAmong (ids_of items) (input_pairs items)
 pairs_among items lead = all_from (λ (p : ℕ × ℕ). IsIn p.0 (ids_of items) × IsIn p.1 (ids_of items)) (input_pairs items) (λ p h.
     let f = from_flat (λ (i : Item). map (λ (to : ℕ). (i.id, to)) (inputs i.refs)) items p h in
     let m = from_map (λ (to : ℕ). (f.0.id, to)) (inputs f.0.refs) p f.2 in

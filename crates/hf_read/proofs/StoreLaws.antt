@@ -1,10 +1,11 @@
 -- The store of a file that was read is valid.
 use Rattle.std.proofs.Common.{◌≡◌, ℕ, ◌+◌, ◌≤◌, ◌<◌, true, List, [], ◌∷◌, ◌++◌, length, length-append, take, map, Option, refl, sym, ap, subst, ◌∙◌, arith, inl, inr, ◌⊎◌}
 use Rattle.std.specs.Prelude.{IsTrue, min}
-use Rattle.std.specs.List.{AllZip}
+use Rattle.std.specs.List.{AllZip, sum_by}
 use Rattle.std.specs.Str.{bytes_eq}
 use Rattle.std.proofs.lemmas.Bool.{cases_Bool, or_cases}
 use Rattle.std.proofs.lemmas.List.{length-take}
+use Rattle.std.proofs.lemmas.List.Sums.{sum_by-cons}
 use Rattle.std.proofs.lemmas.Slice.Eq.{bytes_eq-Decides}
 use Rattle.hf_base.specs.Members.{IsIn, RisesFrom, Rises}
 use Rattle.hf_base.specs.Number.{num}
@@ -24,18 +25,21 @@ use Rattle.hf_info.proofs.IinfLemmas.{iinf_good}
 use Rattle.hf_links.specs.Grpl.{Group}
 use Rattle.hf_order.proofs.Members.{in_all, all_from, from_map}
 use Rattle.hf_prop.specs.declared.held.Held.{Held}
+use Rattle.hf_store.specs.Counts.{targets_of}
 use Rattle.hf_store.specs.Derived.{inputs}
+use Rattle.hf_store.specs.LimitFaults.{limits_fault}
 use Rattle.hf_store.specs.References.{IsKept}
 use Rattle.hf_store.specs.Store.{Item, ItemStore, ids_of}
 use Rattle.hf_store.specs.declared.item.RefList.{RefList}
 use Rattle.hf_store.specs.Table.{table_of}
-use Rattle.hf_store.specs.Valid.{HasBrand, AreGoodBrands, IsGoodRef, IsGoodItem, IsGoodGroup, Valid}
+use Rattle.hf_store.specs.Valid.{HasBrand, AreGoodBrands, IsGoodRefWithin, IsGoodItemWithin, IsGoodGroup, ValidWithin, Valid, IsSound, meta_len}
 use Rattle.hf_base.specs.Entries.{has_id}
 use Rattle.hf_read.specs.Denotes.{IsItemOf}
 use Rattle.hf_read.specs.Kept.{left_of, kept_refs, kept_props, kept_groups}
 use Rattle.hf_read.specs.Reading.{idat_of, item_of, item_at, store_at}
 use Rattle.hf_read.specs.Tables.{Tables, AreLinks, infos_by_id, item_ids}
 use Rattle.hf_read.specs.TopLevel.{has_brand, has_mif1}
+use Rattle.hf_read.proofs.FirstFaults.{fine}
 use Rattle.hf_read.proofs.ItemLaws.{ids_zip, items_zip, item_entry, body_is, placed_each}
 use Rattle.hf_read.proofs.KeptGroups.{groups_rise, left_group, some_left, left_items}
 use Rattle.hf_read.proofs.KeptProps.{few_props, held_in, held_kind, table_few}
@@ -133,8 +137,9 @@ ids_some F s r = above_zero (ids_of s.items) (ids_rise F s r) (λ n h.
 
 -- ---- an item
 
-good_ref : (all : List Item) (o : Option BoxAt) (links : List RefBox) (ids : List ℕ) (from : ℕ) (r : RefList) → AreLinks o links → ids_of all ≡ ids → IsIn r (kept_refs ids links from) → length r.to ≤ limits.LINKS → IsGoodRef all r
-good_ref all o links ids from r are same h few =
+good_ref : (most : ℕ) (all : List Item) (o : Option BoxAt) (links : List RefBox) (ids : List ℕ) (from : ℕ) (r : RefList) → AreLinks o links → ids_of all ≡ ids
+    → IsIn r (kept_refs ids links from) → length r.to ≤ most → IsGoodRefWithin most all r
+good_ref most all o links ids from r are same h few =
     let p = list_kind ids links from r h in
     let b = kind_box from links p.0 p.1 in
     let kind : b.0.kind ≡ r.kind = b.2 ∙ ap (λ (x : RefList). x.kind) p.2 in
@@ -149,9 +154,10 @@ good_ref all o links ids from r are same h few =
           subst (λ (l : List ℕ). IsIn x l) (sym same) among);
     }
 
-good_item : (all : List Item) (o : Option BoxAt) (t : Tables) (info : Info) (bytes : List ℕ) → AreLinks o t.links → IsGoodIprp t.iprp → ids_of all ≡ item_ids t.infos → IsGoodInfo info
-    → ((r : RefList) → IsIn r (item_of t info bytes).refs → length r.to ≤ limits.LINKS) → IsTrue (fits info.kind bytes (length (inputs (item_of t info bytes).refs))) → IsGoodItem all (item_of t info bytes)
-good_item all o t info bytes links iprp same good few fit =
+good_item : (most : ℕ) (all : List Item) (o : Option BoxAt) (t : Tables) (info : Info) (bytes : List ℕ) → AreLinks o t.links
+    → IsGoodIprp t.iprp → ids_of all ≡ item_ids t.infos → IsGoodInfo info → ((r : RefList) → IsIn r (item_of t info bytes).refs → length r.to ≤ most)
+    → IsTrue (fits info.kind bytes (length (inputs (item_of t info bytes).refs))) → IsGoodItemWithin most all (item_of t info bytes)
+good_item most all o t info bytes links iprp same good few fit =
     let ids = item_ids t.infos in
     record {
       id = good.id;
@@ -164,23 +170,31 @@ good_item all o t info bytes links iprp same good few fit =
       only_uri = good.only_uri;
       props = few_props t.iprp info.id iprp;
       prop_kinds = all_from (λ (h : Held). length h.prop.kind.0 ≡ 4) (kept_props t.iprp info.id) (λ h k. held_kind t.iprp info.id h iprp k);
-      refs = all_from (IsGoodRef all) (kept_refs ids t.links info.id) (λ r h. good_ref all o t.links ids info.id r links same h (few r h));
+      refs = all_from (IsGoodRefWithin most all) (kept_refs ids t.links info.id) (λ r h. good_ref most all o t.links ids info.id r links same h (few r h));
       kinds_rise = (refs_are_kept ids t.links info.id).rise;
       fits = fit;
     }
 
-each_good : (F : List ℕ) (s : ItemStore) (r : IsRead F s) (i : Item) → IsIn i s.items → IsGoodItem s.items i
-each_good F s r i h =
+-- no reference list of these items has more ids
+abbrev pub AreLinksWithin : ℕ → List Item → Type 0
+AreLinksWithin most items = (i : Item) (r : RefList) → IsIn i items → IsIn r i.refs → length r.to ≤ most
+
+each_good : (most : ℕ) (F : List ℕ) (s : ItemStore) (r : IsRead F s) → AreLinksWithin most s.items → (i : Item) → IsIn i s.items
+    → IsGoodItemWithin most s.items i
+each_good most F s r links i h =
     let t = r.tables in
     let e = item_entry F (idat_of r.parts) t (infos_by_id t.infos) s.items (read_items F s r) i h in
     let is : i ≡ item_of t e.0 e.2.placed.bytes = e.2.is in
-    let few = subst (λ (k : Item). (q : RefList) → IsIn q k.refs → length q.to ≤ limits.LINKS) is (λ q k. (limits_kept s r.limits).links i q h k) in
+    let few = subst (λ (k : Item). (q : RefList) → IsIn q k.refs → length q.to ≤ most) is (λ q k. links i q h k) in
     let fit = subst (λ (k : Item). IsTrue (fits k.kind k.bytes (length (inputs k.refs)))) is (each_fits s.items r.derived i h) in
-    let good = good_item s.items r.parts.iref t e.0 e.2.placed.bytes r.are_tables.links (good_iprp r.parts.iprp t.iprp r.are_tables.iprp) (read_ids F s r) (good_info F s r e.0 e.1) few fit in
-    subst (λ (k : Item). IsGoodItem s.items k) (sym is) good
+    let iprp = good_iprp r.parts.iprp t.iprp r.are_tables.iprp in
+    let good = good_item most s.items r.parts.iref t e.0 e.2.placed.bytes r.are_tables.links iprp (read_ids F s r) (good_info F s r e.0 e.1) few fit in
+    subst (λ (k : Item). IsGoodItemWithin most s.items k) (sym is) good
 
-pub lead_to_items : (items : List Item) → ((i : Item) → IsIn i items → IsGoodItem items i) → LeadToItems items
-lead_to_items items good i r x h k among = in_all (λ id. IsIn id (ids_of items)) r.to (in_all (IsGoodRef items) i.refs (good i h).refs r k).to x among
+pub lead_to_items : (most : ℕ) (items : List Item) → ((i : Item) → IsIn i items → IsGoodItemWithin most items i) → LeadToItems items
+lead_to_items most items good i r x h k among =
+    let list = in_all (IsGoodRefWithin most items) i.refs (good i h).refs r k in
+    in_all (λ id. IsIn id (ids_of items)) r.to list.to x among
 
 -- ---- a group
 
@@ -219,21 +233,51 @@ few_kinds F s r =
 
 -- ---- the whole
 
-pub is_valid : (F : List ℕ) (s : ItemStore) → length F ≤ limits.FILE → IsRead F s → Valid s
-is_valid F s small r =
-    let kept = limits_kept s r.limits in
+-- within these limits, where it keeps them
+valid_within : (most_items most_links most_bytes : ℕ) (F : List ℕ) (s : ItemStore) → length F ≤ limits.FILE → IsRead F s
+    → length s.items ≤ most_items → AreLinksWithin most_links s.items → meta_len s ≤ most_bytes → ValidWithin most_items most_links most_bytes s
+valid_within most_items most_links most_bytes F s small r count links meta =
+    let up = groups_rise (item_ids r.tables.infos) r.tables.groups (distinct_groups r.parts.grpl r.tables.groups r.are_tables.groups) in
     let rise : Rises ◌<◌ (map (λ (g : Group). g.id) s.groups) =
-    subst (λ (l : List Group). Rises ◌<◌ (map (λ (g : Group). g.id) l)) (sym (read_groups F s r)) (groups_rise (item_ids r.tables.infos) r.tables.groups (distinct_groups r.parts.grpl r.tables.groups r.are_tables.groups)) in
+    subst (λ (l : List Group). Rises ◌<◌ (map (λ (g : Group). g.id) l)) (sym (read_groups F s r)) up in
+    let good = each_good most_links F s r links in
     record {
       brands = good_brands F s small r;
       ids_rise = ids_some F s r;
       primary = subst (λ (l : List ℕ). IsIn s.primary l) (sym (read_ids F s r)) r.are_tables.there;
-      items = all_from (IsGoodItem s.items) s.items (each_good F s r);
+      items = all_from (IsGoodItemWithin most_links s.items) s.items good;
       groups_rise = rise;
       groups = all_from (IsGoodGroup s.items) s.groups (good_group F s r);
-      ends = walks_end s.items (ids_rise F s r) (lead_to_items s.items (each_good F s r)) r.derived;
-      count = kept.count;
+      ends = walks_end s.items (ids_rise F s r) (lead_to_items most_links s.items good) r.derived;
+      count = count;
       kinds = few_kinds F s r;
       body = subst (λ (n : ℕ). n ≤ limits.BODY) (sym (body_is F (idat_of r.parts) r.tables s.items (read_items F s r))) r.placed.small;
-      meta = kept.meta;
+      meta = meta;
     }
+
+pub is_valid : (F : List ℕ) (s : ItemStore) → length F ≤ limits.FILE → IsRead F s → limits_fault s ≡ fine → Valid s
+is_valid F s small r clean =
+    let kept = limits_kept s clean in
+    valid_within limits.ITEMS limits.LINKS limits.META F s small r kept.count kept.links kept.meta
+
+-- ---- without limits
+
+in_sum : {A : Type 0} (f : A → ℕ) (xs : List A) (x : A) → IsIn x xs → f x ≤ sum_by f xs
+in_sum f [] x h = absurd h
+in_sum f (y ∷ ys) x (inl e) = omega (arith, ap f e, sum_by-cons f y ys)
+in_sum f (y ∷ ys) x (inr h) = omega (arith, in_sum f ys x h, sum_by-cons f y ys)
+
+-- the ids of all reference lists, which no list has more than
+links_sum : List Item → ℕ
+links_sum items = sum_by (λ (i : Item). targets_of i.refs) items
+
+within_sum : (items : List Item) → AreLinksWithin (links_sum items) items
+unfolding links_sum
+within_sum items i r h k = omega (arith, in_sum (λ (q : RefList). length q.to) i.refs r k, in_sum (λ (j : Item). targets_of j.refs) items i h)
+
+pub is_sound : (F : List ℕ) (s : ItemStore) → length F ≤ limits.FILE → IsRead F s → IsSound s
+is_sound F s small r =
+    let items = length s.items in
+    let links = links_sum s.items in
+    let bytes = meta_len s in
+    (items, links, bytes, valid_within items links bytes F s small r (omega arith) (within_sum s.items) (omega arith))

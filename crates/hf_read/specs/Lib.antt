@@ -1,7 +1,10 @@
 pub mod Cuts
 pub mod Denotes
 pub mod Faults
+pub mod Items
 pub mod Kept
+pub mod Level
+pub mod Opening
 pub mod Reading
 pub mod References
 pub mod Rising

@@ -1,15 +1,80 @@
 //! A file is opened.
 
-ghost use Rattle.std.specs.Prelude.{◌≡◌, ◌≤◌, length, IfOk};
-ghost use Rattle.hf_base.specs.Reading.{Gives, MatchOpen};
+ghost use Rattle.std.specs.Prelude.{◌≡◌, ◌≤◌, length, IfOk, IfErr, Err};
+ghost use Rattle.std.specs.Option.{option_copied};
+ghost use Rattle.hf_base.specs.Reading.{Fails, Gives, MatchOpen};
 ghost use Rattle.hf_base.specs.declared.limits.TheConstants as limits;
+ghost use Rattle.hf_head.specs.Ftyp.{brands_of};
+ghost use Rattle.hf_store.specs.Seen.{stated};
 ghost use Rattle.hf_store.specs.Store.{ItemStore};
 ghost use Rattle.hf_read.specs.Denotes.{DenotesWithin};
-ghost use Rattle.hf_read.specs.Reading.{reading};
+ghost use Rattle.hf_read.specs.Opening.{IsMetaOf, IsStoreOf};
+ghost use Rattle.hf_read.specs.Reading.{idat_of, reading, reading_parts};
+ghost use Rattle.hf_read.specs.Seen.{parts_seen, HaveKinds};
 
+use crate::derived::check_derived;
+use crate::items::store_parts;
+use crate::meta::MetaParts;
+use crate::tables::read_tables;
+use crate::top_level::{children_of, parts_of, top_of};
 use hf_base::OpenFault;
-use hf_store::Store;
+use hf_box::read_boxes;
+use hf_head::{Brands, read_hdlr, read_pitm};
+use hf_store::{Parts, Store};
 use std::alloc::Global;
+
+/// The brands of a file, and the boxes of its `meta` that are read.
+#[tactic(auto, unfolding(crate::specs::Reading::reading))]
+fn meta_of<'a>(alloc: Global, file: &'a [u8]) -> Result<(Brands<'a>, MetaParts<'a>), OpenFault>
+    requires { length file.now ≤ limits.FILE }
+    ensures found { IfOk result (λ x. IsMetaOf file.now (brands_of x.0) (parts_seen x.1)) }
+    ensures kinds { IfOk result (λ x. HaveKinds x.1) }
+    ensures fault { IfErr result (λ e. Fails e (reading file.now)) }
+{
+    let boxes = read_boxes(alloc, file, 0, true)?;
+    let (brands, meta) = top_of(alloc, &boxes)?;
+    let children = children_of(alloc, &meta)?;
+    let parts = parts_of(alloc, &children)?;
+    Ok((brands, parts))
+}
+
+/// The body of `idat`, if there is one.
+fn idat_in<'a>(meta: &MetaParts<'a>) -> Option<&'a [u8]>
+    ensures { option_copied result ≡ idat_of (parts_seen meta.now) }
+{
+    let idat = meta.idat?;
+    Some(idat.body)
+}
+
+/// What the boxes of a `meta` make a store of, its limits aside.
+fn sound_parts<'a>(
+    alloc: Global,
+    file: &'a [u8],
+    brands: Brands<'a>,
+    meta: &MetaParts<'a>,
+) -> Result<Parts<'a>, OpenFault>
+    requires { HaveKinds meta.now }
+    ensures { MatchOpen result
+        (λ parts. IsStoreOf file.now (brands_of brands.entry) (parts_seen meta.now) (stated parts))
+        (λ why. reading_parts file.now (brands_of brands.entry) (parts_seen meta.now) ≡ Err why) }
+{
+    read_hdlr(&meta.hdlr)?;
+    let primary = read_pitm(&meta.pitm)?;
+    let tables = read_tables(alloc, primary, meta)?;
+    let parts = store_parts(alloc, file, idat_in(meta), brands, primary, tables)?;
+    check_derived(alloc, parts.items.as_slice())?;
+    Ok(parts)
+}
+
+/// The store of a file, or the first reason why it is refused.
+fn opened<'a>(alloc: Global, file: &'a [u8]) -> Result<Store<'a>, OpenFault>
+    requires { length file.now ≤ limits.FILE }
+    ensures { Gives (λ store. store) result (reading file.now) }
+{
+    let (brands, meta) = meta_of(alloc, file)?;
+    let parts = sound_parts(alloc, file, brands, &meta)?;
+    Store::build(alloc, parts)
+}
 
 /// Opens a file: the store that it denotes, or the first reason why it is refused. Which files are
 /// refused, and the order of the reasons, is this project's own rule. `NoMemory` comes where memory
@@ -23,5 +88,5 @@ pub fn open_store<'a>(alloc: Global, file: &'a [u8]) -> Result<Store<'a>, OpenFa
     // Which fault.
     ensures exact { Gives (λ store. store) result (reading file.now) }
 {
-    Err(OpenFault::NoMemory)
+    opened(alloc, file)
 }

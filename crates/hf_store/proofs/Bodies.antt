@@ -1,5 +1,5 @@
 -- The bytes of all items, counted item by item.
-use Rattle.std.proofs.Common.{◌≡◌, ℕ, ◌+◌, List, ◌∷◌, length}
+use Rattle.std.proofs.Common.{◌≡◌, ◌+◌, List, ◌∷◌, length}
 use Rattle.std.proofs.lemmas.List.Sums.{sum_by-cons}
 use Rattle.hf_store.specs.Store.{Item}
 use Rattle.hf_store.specs.Valid.{body_sum}

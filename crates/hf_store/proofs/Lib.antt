@@ -23,12 +23,17 @@ pub mod Lengths
 pub mod Listed
 pub mod Mapped
 pub mod References
+pub mod Measured
 pub mod MetaCounts
+pub mod Names
 pub mod Needers
 pub mod Offsets
+pub mod Others
+pub mod Passed
 pub mod PlainLengths
 pub mod Pushed
 pub mod Reasons
+pub mod Recounted
 pub mod RefusedStores
 pub mod Removals
 pub mod Removed
@@ -37,6 +42,7 @@ pub mod Sizes
 pub mod Spots
 pub mod Tables
 pub mod Tallied
+pub mod TestStores
 pub mod Uses
 pub mod ValidPairs
 pub mod ValidStores

@@ -10,6 +10,7 @@ pub mod Offsets
 pub mod LimitFaults
 pub mod LimitStores
 pub mod Lists
+pub mod Measured
 pub mod Picks
 pub mod References
 pub mod Plain
@@ -18,6 +19,7 @@ pub mod Sizes
 pub mod Stays
 pub mod Store
 pub mod Table
+pub mod Untouched
 pub mod Valid
 pub mod WorkedChanges
 pub mod WorkedDerived

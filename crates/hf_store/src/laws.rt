@@ -3,6 +3,7 @@
 ghost use Rattle.hf_store.specs.Changes.{LeastNeederIsTold, NoNeederIsTold, StepsKeepValidity, StepsKeepPlain};
 ghost use Rattle.hf_store.specs.Picks.{NumbersSelect, SelectsOnce};
 ghost use Rattle.hf_store.specs.References.{BoxesAreWritten, ReferencesComeBack, ReferencesOnce};
+ghost use Rattle.hf_store.specs.Untouched.{OthersAreTheSame, UntouchedItemsStay};
 
 /// The property numbers of a canonical file select the properties of each item, in order, and
 /// nothing else.
@@ -30,4 +31,11 @@ pub fn steps_keep_validity()
 pub fn least_needer_is_told()
     ensures some { LeastNeederIsTold }
     ensures none { NoNeederIsTold }
+{}
+
+/// A removal leaves each other item, in order, with what it is and has, but for its references to the item that went; and no
+/// item comes.
+pub fn untouched_items_stay()
+    ensures same { UntouchedItemsStay }
+    ensures others { OthersAreTheSame }
 {}

@@ -11,6 +11,7 @@ mod item;
 pub mod laws;
 pub mod limits;
 pub mod linked;
+mod measuring;
 pub mod plain;
 mod reason;
 mod removal;
@@ -24,3 +25,6 @@ pub use reason::Reason;
 pub use removal::{needed_by, remove_item};
 pub use store::{Parts, Store};
 pub use tally::{Counts, in_idat};
+
+#[cfg(test)]
+mod tests;

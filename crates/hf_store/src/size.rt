@@ -27,7 +27,7 @@ pub struct Inner {
 }
 
 /// The bytes that an item id takes.
-fn id_width(wide: bool) -> u64
+pub(crate) fn id_width(wide: bool) -> u64
     ensures { result ≡ width_of wide }
 {
     if wide { 4 } else { 2 }

@@ -1,9 +1,9 @@
 //! Changes of a store.
 
-ghost use Rattle.std.specs.Prelude.{◌≡◌, ◌<◌, length, not, OnOk, OnErr};
+ghost use Rattle.std.specs.Prelude.{◌≡◌, ◌<◌, length, map, not, OnOk, OnErr};
 ghost use Rattle.std.specs.List.Sorted.{IsStrictlyIncreasing};
-ghost use Rattle.hf_store.specs.Changes.{added, id_at, kept_only, removed, with_hidden, with_primary, with_props, without_props};
-ghost use Rattle.hf_store.specs.Seen.{item_of};
+ghost use Rattle.hf_store.specs.Changes.{added, id_at, kept_only, removed, unnamed, with_hidden, with_primary, with_props, without_names, without_props};
+ghost use Rattle.hf_store.specs.Seen.{item_of, items_of};
 ghost use Rattle.hf_store.specs.Valid.{Valid};
 ghost use Rattle.hf_table.specs.Held.{is_among, is_of};
 
@@ -30,6 +30,15 @@ fn relinked(counts: Counts, links: &Links, groups: Counts) -> Counts
     }
 }
 
+/// Takes the names of items away.
+fn unname(items: &mut Vec<Item<'_>>)
+    ensures { items_of items.new.items ≡ map unnamed (items_of items.old.items) }
+{
+    for i in 0..items.len() {
+        items[i].name = b"";
+    }
+}
+
 impl<'a> Store<'a> {
     /// Makes the item with an id the primary one.
     pub fn set_primary(&mut self, id: u32)
@@ -47,6 +56,14 @@ impl<'a> Store<'a> {
     {
         let item = &mut self.items[i];
         item.hidden = hidden;
+    }
+
+    /// Takes the names of all items away.
+    pub fn clear_names(&mut self)
+        ensures { self.new ≡ without_names self.old }
+    {
+        unname(&mut self.items);
+        self.counts = count_items(&self.items).plus(count_groups(&self.groups));
     }
 
     /// Drops the properties of one type of the item at a place, counted from 0 by rising id.

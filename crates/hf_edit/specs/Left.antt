@@ -1,0 +1,90 @@
+-- What edits leave as it was.
+use Rattle.std.specs.Prelude.{ℕ, ◌≡◌, ◌==◌, not, List, map, filter, None}
+use Rattle.std.specs.List.{flat_map}
+use Rattle.hf_base.specs.declared.four.FourCc.{FourCc}
+use Rattle.hf_store.specs.Lists.{IsIn}
+use Rattle.hf_store.specs.Changes.{cut_groups, is_other}
+use Rattle.hf_store.specs.Store.{Item, Group, ItemStore, ids_of}
+use Rattle.hf_store.specs.declared.item.RefList.{RefList}
+use Rattle.hf_store.specs.Valid.{Valid}
+use Rattle.hf_edit.specs.Edits.{Edit, Remove, Primary, Hide, Show, Drop, step, why}
+
+-- the references of an item one by one: their types, and the ids that they lead to
+abbrev pub links_of : List RefList → List (FourCc × ℕ)
+links_of rs = flat_map (λ (r : RefList). map (λ to. (r.kind, to)) r.to) rs
+
+-- the item with the id goes
+abbrev pub Takes : Edit → ℕ → Type 0
+Takes (Remove id) x = x ≡ id
+Takes _ x = ⊥
+
+-- the mark of the item with the id is set or cleared
+abbrev pub Marks : Edit → ℕ → Type 0
+Marks (Hide id) x = x ≡ id
+Marks (Show id) x = x ≡ id
+Marks _ x = ⊥
+
+-- properties of the item with the id go
+abbrev pub Strips : Edit → ℕ → Type 0
+Strips (Drop id kind) x = x ≡ id
+Strips _ x = ⊥
+
+-- the references that are left of these: those to an item that goes are gone, and the others are the same
+abbrev pub AreLeft : Edit → List RefList → List RefList → Type 0
+AreLeft (Remove id) before after = links_of after ≡ filter (λ link. not (link.1 == id)) (links_of before)
+AreLeft _ before after = after ≡ before
+
+-- an item, and what an edit leaves of it
+pub record IsLeft (e : Edit) (before after : Item) : Type 0 where
+  pub id : after.id ≡ before.id
+  pub kind : after.kind ≡ before.kind
+  pub name : after.name ≡ before.name
+  pub content : after.content ≡ before.content
+  pub encoding : after.encoding ≡ before.encoding
+  pub uri : after.uri ≡ before.uri
+  pub bytes : after.bytes ≡ before.bytes
+  pub mark : (Marks e before.id → ⊥) → after.hidden ≡ before.hidden
+  pub props : (Strips e before.id → ⊥) → after.props ≡ before.props
+  pub refs : AreLeft e before.refs after.refs
+
+-- the ids of the items that are left, in their order
+abbrev pub AreIdsLeft : Edit → List ℕ → List ℕ → Type 0
+AreIdsLeft (Remove id) before after = after ≡ filter (λ x. not (x == id)) before
+AreIdsLeft _ before after = after ≡ before
+
+-- the groups that are left: only a removed item goes from them
+abbrev pub AreGroupsLeft : Edit → List Group → List Group → Type 0
+AreGroupsLeft (Remove id) before after = after ≡ cut_groups (is_other id) before
+AreGroupsLeft _ before after = after ≡ before
+
+-- the primary item that is left
+abbrev pub IsPrimaryLeft : Edit → ℕ → ℕ → Type 0
+IsPrimaryLeft (Primary id) before after = after ≡ id
+IsPrimaryLeft _ before after = after ≡ before
+
+-- a store, and what an edit leaves of it beside what each item has
+pub record IsRestLeft (e : Edit) (before after : ItemStore) : Type 0 where
+  pub brands : after.brands ≡ before.brands
+  pub primary : IsPrimaryLeft e before.primary after.primary
+  pub ids : AreIdsLeft e (ids_of before.items) (ids_of after.items)
+  pub groups : AreGroupsLeft e before.groups after.groups
+
+-- ---- laws
+
+-- an edit against which there is no reason leaves a valid store valid
+abbrev pub StepsKeepValidity : Type 0
+StepsKeepValidity = (s : ItemStore) (e : Edit) → Valid s → why s e ≡ None → Valid (step s e)
+
+-- an item that an edit does not take away is there after it, with all that the edit does not touch
+abbrev pub UntouchedItemsStay : Type 0
+UntouchedItemsStay =
+    (s : ItemStore) (e : Edit) (i : Item) → IsIn i s.items → (Takes e i.id → ⊥)
+    → (j : Item) × IsIn j (step s e).items × IsLeft e i j
+
+-- and no other item is there
+abbrev pub NoItemComes : Type 0
+NoItemComes = (s : ItemStore) (e : Edit) (j : Item) → IsIn j (step s e).items → (i : Item) × IsIn i s.items × IsLeft e i j
+
+-- and all else stays
+abbrev pub RestStays : Type 0
+RestStays = (s : ItemStore) (e : Edit) → IsRestLeft e s (step s e)

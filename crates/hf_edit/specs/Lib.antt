@@ -1,0 +1,5 @@
+pub mod Edits
+pub mod Faults
+pub mod Left
+pub mod Seen
+pub mod Worked
