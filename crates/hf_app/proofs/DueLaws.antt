@@ -1,10 +1,10 @@
 -- What is due of a file is one thing, and what it means that `edit` ends Done.
 use Rattle.std.proofs.Common.{◌≡◌, ℕ, List, [], sym, ap, ◌∙◌, inl, inr, arith, subst, Result, Ok, Err}
-use Rattle.std.specs.Prelude.{Some}
+use Rattle.std.specs.Prelude.{Some, None}
 use Rattle.hf_base.specs.declared.fault.ReadRefusal.{ReadRefusal}
 use Rattle.hf_desk.specs.Outside.{Outside}
-use Rattle.hf_desk.specs.Calls.{IfTold}
-use Rattle.hf_desk.specs.Making.{IsMade}
+use Rattle.hf_desk.specs.Calls.{IfTold, Said}
+use Rattle.hf_desk.specs.Making.{IsMade, IsUnmade}
 use Rattle.hf_desk.proofs.Frames.{told_map}
 use Rattle.hf_store.specs.Store.{ItemStore}
 use Rattle.hf_store.specs.Changes.{Edit}
@@ -13,11 +13,13 @@ use Rattle.hf_store.specs.declared.reason.Reason.TheVariants.{NoItem}
 use Rattle.hf_plan.specs.Canon.{Canon}
 use Rattle.hf_plan.proofs.OneFile.{one_canon}
 use Rattle.hf_app.specs.Answers.{Ends, Answers}
-use Rattle.hf_app.specs.Due.{Due, IsDueOf, IsDueOfEdits, answered}
+use Rattle.hf_app.specs.Due.{Due, IsDueOf, IsDueOfEdits, IsDueOfList, answered}
 use Rattle.hf_app.specs.Edits.{IsEdited, IsRefused, stepped}
-use Rattle.hf_text.specs.Words.{Command, Boxes, EditFile}
+use Rattle.hf_app.specs.Listed.{IsListed}
+use Rattle.hf_text.specs.Listing.{listing_text}
+use Rattle.hf_text.specs.Words.{Command, Boxes, ListFile, EditFile}
 use Rattle.hf_text.specs.declared.outcome.Outcome.TheVariants.{Done, Unfit, Refused}
-use Rattle.hf_app.proofs.DenotesLaws.{denotes_one}
+use Rattle.hf_read.proofs.DenotesLaws.{denotes_one}
 
 abbrev pub Stepped : Type 0
 Stepped = Result ItemStore (ℕ × Reason)
@@ -77,11 +79,28 @@ one_edit file out edits some other (inr (inr (bytes, a, e))) (inr (inr (more, b,
     let same : bytes ≡ more = equal_bytes file file edits edits bytes more a b (one_after file edits bytes more a b) in
     e ∙ ap (made out) same ∙ sym e'
 
+abbrev pub said : List ℕ → Due
+said text = record { outcome = Done; makes = None; says = text }
+
+one_text : (file text more : List ℕ) → IsListed file text → IsListed file more → text ≡ more
+one_text file text more a b =
+    let same : a.store ≡ b.store = denotes_one file a.store b.store a.denoted b.denoted in
+    a.listed ∙ ap listing_text same ∙ sym b.listed
+
+one_list : (file : List ℕ) (some other : Due) → IsDueOfList file some → IsDueOfList file other → some ≡ other
+one_list file some other (inl (why, is, e)) (inl (why', is', e')) =
+    let same : why ≡ why' = cc in
+    e ∙ ap (λ (f : ReadRefusal). answered (Unfit 0 f)) same ∙ sym e'
+one_list file some other (inl (why, is, e)) (inr (text, a, e')) = let none = a.sound in absurd cc
+one_list file some other (inr (text, a, e)) (inl (why, is, e')) = let none = a.sound in absurd cc
+one_list file some other (inr (text, a, e)) (inr (more, b, e')) = e ∙ ap said (one_text file text more a b) ∙ sym e'
+
 pub one_due : (command : Command) (file : List ℕ) (some other : Due) → IsDueOf command file some → IsDueOf command file other → some ≡ other
 one_due command file some other (inl (over, e)) (inl (over', e')) = e ∙ sym e'
 one_due command file some other (inl (over, e)) (inr (few, is)) = absurd (omega arith)
 one_due command file some other (inr (few, is)) (inl (over, e)) = absurd (omega arith)
 one_due (Boxes input) file some other (inr (few, e)) (inr (few', e')) = e ∙ sym e'
+one_due (ListFile input) file some other (inr (few, is)) (inr (few', is')) = one_list file some other is is'
 one_due (EditFile input out edits) file some other (inr (few, is)) (inr (few', is')) = one_edit file out edits some other is is'
 
 done_of : (file out : List ℕ) (input : List ℕ) (edits : List Edit) (old new : Outside) → Answers (IsDueOf (EditFile input out edits) file) Done old new → (bytes : List ℕ) × IsEdited file edits bytes × IsMade old out bytes new
@@ -93,3 +112,12 @@ done_of file out input edits old new (d, inr (few, inr (inr (bytes, a, e))), sam
 pub done_is_made : (input out : List ℕ) (edits : List Edit) (old new : Outside) → Ends (EditFile input out edits) Done old new → IfTold old input (λ file. (bytes : List ℕ) × IsEdited file edits bytes × IsMade old out bytes new)
 done_is_made input out edits old new ends =
     told_map old input (λ file. Answers (IsDueOf (EditFile input out edits) file) Done old new) (λ file. (bytes : List ℕ) × IsEdited file edits bytes × IsMade old out bytes new) (λ files is file there a. done_of file out input edits old new a) ends
+
+listed_of : (file input : List ℕ) (old new : Outside) → Answers (IsDueOf (ListFile input) file) Done old new → (text : List ℕ) × IsListed file text × IsUnmade old new × Said old text new
+listed_of file input old new (d, inl (over, e), same, both) = let o = ap (λ (d : Due). d.outcome) e in absurd cc
+listed_of file input old new (d, inr (few, inl (why, is, e)), same, both) = let o = ap (λ (d : Due). d.outcome) e in absurd cc
+listed_of file input old new (d, inr (few, inr (text, a, e)), same, both) = (text, a, rw e at both.0, rw e at both.1)
+
+pub done_is_said : (input : List ℕ) (old new : Outside) → Ends (ListFile input) Done old new → IfTold old input (λ file. (text : List ℕ) × IsListed file text × IsUnmade old new × Said old text new)
+done_is_said input old new ends =
+    told_map old input (λ file. Answers (IsDueOf (ListFile input) file) Done old new) (λ file. (text : List ℕ) × IsListed file text × IsUnmade old new × Said old text new) (λ files is file there a. listed_of file input old new a) ends

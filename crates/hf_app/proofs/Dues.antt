@@ -12,16 +12,22 @@ use Rattle.hf_desk.proofs.Frames.{told_for, told_map}
 use Rattle.hf_desk.specs.declared.read.ReadStop.{ReadStop}
 use Rattle.hf_desk.specs.declared.read.ReadStop.TheVariants as reads
 use Rattle.hf_store.specs.Changes.{Edit}
+use Rattle.hf_store.specs.Store.{ItemStore}
+use Rattle.hf_read.specs.Denotes.{DenotesWithin}
+use Rattle.hf_read.specs.Reading.{reading}
+use Rattle.hf_app.proofs.DueLaws.{said}
+use Rattle.hf_app.proofs.SomethingDue.{fault_told, no_fault, list_said}
 use Rattle.hf_app.specs.declared.editing.Stop.{Stop}
 use Rattle.hf_app.specs.declared.editing.Stop.TheVariants as stops
 use Rattle.hf_text.specs.declared.outcome.Outcome.{Outcome}
 use Rattle.hf_text.specs.declared.outcome.Outcome.TheVariants.{Done, Usage, Unfit, Refused, TooLong, ReadFault, WriteFault, NoMemory}
 use Rattle.hf_app.specs.Answers.{Answers, Ends, ForDue, ForFile, HasCause, HasDue, IsDueOrNoMemory}
-use Rattle.hf_app.specs.Due.{Due, IsDefined, IsDue, IsDueOf, IsDueOfEdits, answered, due_of_rows, input_of}
+use Rattle.hf_app.specs.Due.{Due, IsDefined, IsDue, IsDueOf, IsDueOfEdits, IsDueOfList, answered, due_of_rows, input_of}
 use Rattle.hf_app.specs.Edits.{IsEdited, Stops}
 use Rattle.hf_app.specs.Stops.{outcome_of_read, outcome_of_stop}
+use Rattle.hf_text.specs.Listing.{listing_text}
 use Rattle.hf_text.specs.Texts.{rows_text}
-use Rattle.hf_text.specs.Words.{Command, Boxes, EditFile}
+use Rattle.hf_text.specs.Words.{Command, Boxes, ListFile, EditFile}
 
 -- the file that is told has these bytes
 abbrev HasBytes : Outside → List ℕ → List ℕ → Type 0
@@ -72,6 +78,30 @@ module _ (old now : Outside) (name bytes : List ℕ) (told : HasBytes old name b
 
   pub steady_rows : (rows : List BoxRow) → walk_at bytes ≡ Ok rows → ForFile old name (λ file. IsDueOrNoMemory (IsDueOf (Boxes name) file) Done)
   steady_rows rows e files some file there = inr (rows_due rows, due_rows old name bytes (rows_due rows) told few (sym (ap due_of_rows e)) files some file there, refl, tt)
+
+-- ---- list
+
+module _ (old now : Outside) (name bytes : List ℕ) (told : HasBytes old name bytes) (few : length bytes ≤ FILE) where
+  due_list : (d : Due) → IsDueOfList bytes d → ForFile old name (λ file. IsDueOf (ListFile name) file d)
+  due_list d is files some file there =
+      let same : bytes ≡ file = told_for old name (λ file. bytes ≡ file) told files some file there in
+      inr (subst (λ (f : List ℕ). length f ≤ FILE) same few, subst (λ (f : List ℕ). IsDueOfList f d) same is)
+
+  pub unfit_list : (why : ReadRefusal) → reading bytes ≡ Err why → ForFile old name (λ file. HasDue (IsDueOf (ListFile name) file) (Unfit 0 why) (λ d. Unit {0}))
+  unfit_list why e files some file there = (answered (Unfit 0 why), due_list (answered (Unfit 0 why)) (inl (why, fault_told bytes why e, refl)) files some file there, refl, tt)
+
+  module _ (s : ItemStore) (denoted : DenotesWithin bytes s) (e : reading bytes ≡ Ok s) where
+    due_said : ForFile old name (λ file. IsDueOf (ListFile name) file (said (listing_text s)))
+    due_said files some file there = due_list (said (listing_text s)) (inr (listing_text s, list_said bytes s denoted (no_fault bytes s e), refl)) files some file there
+
+    pub done_list : IsUnmade old now → Said old (listing_text s) now → ForFile old name (λ file. Answers (IsDueOf (ListFile name) file) Done old now)
+    done_list unmade is_said files some file there = (said (listing_text s), due_said files some file there, refl, (unmade, is_said))
+
+    pub broken_list : IsUnmade old now → SaidFront old (listing_text s) now → ForFile old name (λ file. Answers (IsDueOf (ListFile name) file) WriteFault old now)
+    broken_list unmade is_said files some file there = (said (listing_text s), due_said files some file there, refl, (unmade, is_said))
+
+    pub steady_list : ForFile old name (λ file. IsDueOrNoMemory (IsDueOf (ListFile name) file) Done)
+    steady_list files some file there = inr (said (listing_text s), due_said files some file there, refl, tt)
 
 -- ---- edit
 

@@ -9,10 +9,11 @@ use Rattle.hf_store.specs.Changes.{Edit}
 use Rattle.hf_store.specs.declared.reason.Reason.{Reason}
 use Rattle.hf_text.specs.declared.outcome.Outcome.{Outcome}
 use Rattle.hf_text.specs.declared.outcome.Outcome.TheVariants.{Done, Usage, Unfit, Refused, TooLong}
-use Rattle.hf_app.specs.Denotes.{fault_of}
+use Rattle.hf_read.specs.Reading.{fault_of}
 use Rattle.hf_app.specs.Edits.{IsEdited, IsRefused}
+use Rattle.hf_app.specs.Listed.{IsListed}
 use Rattle.hf_text.specs.Texts.{rows_text}
-use Rattle.hf_text.specs.Words.{Command, Boxes, EditFile}
+use Rattle.hf_text.specs.Words.{Command, Boxes, ListFile, EditFile}
 
 pub record Due : Type 0 where
   pub outcome : Outcome
@@ -29,6 +30,12 @@ abbrev pub due_of_rows : Result (List BoxRow) ReadRefusal → Due
 due_of_rows (Ok rows) = record { outcome = Done; makes = None; says = rows_text rows }
 due_of_rows (Err why) = answered (Unfit 0 why)
 
+-- what is due of a file that is listed: its fault, or its listing is said
+abbrev pub IsDueOfList : List ℕ → Due → Type 0
+IsDueOfList file d =
+    ((fault : ReadRefusal) × (fault_of file ≡ Some fault) × (d ≡ answered (Unfit 0 fault)))
+    ⊎ ((text : List ℕ) × IsListed file text × (d ≡ record { outcome = Done; makes = None; says = text }))
+
 -- what is due of a file that is edited: its fault, the first refused edit, or the canonical file after all edits
 abbrev pub IsDueOfEdits : List ℕ → List ℕ → List Edit → Due → Type 0
 IsDueOfEdits file out edits d =
@@ -39,6 +46,7 @@ IsDueOfEdits file out edits d =
 -- what is due where the input of a command is this file, of at most FILE bytes
 abbrev pub IsDueOfFile : Command → List ℕ → Due → Type 0
 IsDueOfFile (Boxes input) file d = d ≡ due_of_rows (walk_at file)
+IsDueOfFile (ListFile input) file d = IsDueOfList file d
 IsDueOfFile (EditFile input out edits) file d = IsDueOfEdits file out edits d
 
 abbrev pub IsDueOf : Command → List ℕ → Due → Type 0
@@ -49,11 +57,13 @@ IsDueOf command file d =
 -- the name of the file that a command reads
 abbrev pub input_of : Command → List ℕ
 input_of (Boxes input) = input
+input_of (ListFile input) = input
 input_of (EditFile input out edits) = input
 
 -- the name of the file that a command makes
 abbrev pub out_of : Command → Option (List ℕ)
 out_of (Boxes input) = None
+out_of (ListFile input) = None
 out_of (EditFile input out edits) = Some out
 
 -- something is due: the words are no command, or the files are told and have the one that the command reads

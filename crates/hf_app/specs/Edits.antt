@@ -1,11 +1,13 @@
 -- Edits in order, and what they make of a file.
 use Rattle.std.specs.Prelude.{◌≡◌, ◌+◌, ℕ, List, [], ◌∷◌, Option, Some, None, Result, Ok, Err}
-use Rattle.std.specs.Global.{Vec}
 use Rattle.hf_store.specs.Store.{ItemStore}
 use Rattle.hf_store.specs.Changes.{Edit, step, why}
 use Rattle.hf_store.specs.declared.reason.Reason.{Reason}
+use Rattle.hf_store.specs.Valid.{Valid}
 use Rattle.hf_plan.specs.Canon.{Canon}
-use Rattle.hf_app.specs.Denotes.{Denotes, fault_of}
+use Rattle.hf_plan.specs.Plan.{IsPlan, Planned}
+use Rattle.hf_read.specs.Denotes.{Denotes, DenotesWithin}
+use Rattle.hf_read.specs.Reading.{fault_of}
 use Rattle.hf_app.specs.declared.editing.Stop.{Stop}
 use Rattle.hf_app.specs.declared.editing.Stop.TheVariants.{Unfit, Refused, NoMemory}
 
@@ -36,15 +38,28 @@ pub record IsRefused (file : List ℕ) (edits : List Edit) (n : ℕ) (reason : R
   pub sound : fault_of file ≡ None
   pub steps : stepped 1 store edits ≡ Err (n, reason)
 
--- why no bytes are made
+-- why nothing is made
 abbrev pub Stops : List ℕ → List Edit → Stop → Type 0
 Stops file edits (Unfit fault) = fault_of file ≡ Some fault
 Stops file edits (Refused n reason) = IsRefused file edits n reason
 Stops file edits NoMemory = Unit {0}
 
-abbrev pub Edits : List ℕ → List Edit → Result (Vec ℕ) Stop → Type 0
-Edits file edits (Ok bytes) = IsEdited file edits bytes.items
+-- the store that is left after the edits, with the plan of its canonical file, which is what they make of the file
+pub record IsPlanned (file : List ℕ) (edits : List Edit) (after : ItemStore) (plan : Planned) : Type 0 where
+  pub valid : Valid after
+  pub planned : IsPlan after plan
+  pub made : (bytes : List ℕ) → Canon after bytes → IsEdited file edits bytes
+
+abbrev pub Edits : List ℕ → List Edit → Result (ItemStore × Planned) Stop → Type 0
+Edits file edits (Ok made) = IsPlanned file edits made.0 made.1
 Edits file edits (Err stop) = Stops file edits stop
+
+-- the store that the file denotes, or its fault
+abbrev pub Opens : List ℕ → Result ItemStore Stop → Type 0
+Opens file (Ok store) = DenotesWithin file store × (fault_of file ≡ None)
+Opens file (Err (Unfit fault)) = fault_of file ≡ Some fault
+Opens file (Err (Refused n reason)) = ⊥
+Opens file (Err NoMemory) = Unit {0}
 
 -- edits were made in order, or the first one that is refused stopped them
 abbrev pub Steps : ItemStore → List Edit → Result (Unit {0}) Stop → ItemStore → Type 0

@@ -1,14 +1,6 @@
 pub mod Answers
-pub mod Denotes
 pub mod Due
 pub mod Edits
-pub mod Entries
-pub mod FieldViews
-pub mod Iinf
-pub mod Iloc
-pub mod Items
-pub mod Places
-pub mod PlainFiles
+pub mod Listed
+pub mod Making
 pub mod Stops
-pub mod TopLevel
-pub mod TopViews

@@ -10,8 +10,9 @@ ghost use Rattle.hf_app.specs.Answers.{Answers, Ends, ForFile, IsQuiet, HasCause
 
 use crate::editing::edited;
 use crate::input::read_input;
+use crate::making::make_canonical;
 use crate::stopping::{refused, stopped};
-use hf_desk::{Desk, make_file};
+use hf_desk::Desk;
 use hf_text::{EditWord, Outcome};
 use std::alloc::Global;
 
@@ -40,11 +41,11 @@ pub fn edit_file<D: Desk>(
         Ok(file) => file,
         Err(why) => return stopped(0, why),
     };
-    let bytes = match edited(alloc, &file, edits) {
-        Ok(bytes) => bytes,
+    let (store, plan) = match edited(alloc, &file, edits) {
+        Ok(made) => made,
         Err(why) => return refused(why),
     };
-    match make_file(desk, out, &bytes) {
+    match make_canonical(&store, &plan, out, desk) {
         Ok(()) => Outcome::Done,
         Err(_) => Outcome::WriteFault,
     }

@@ -1,15 +1,15 @@
-//! A file after edits: the canonical file of its store.
+//! A file after edits: its store, and the plan of the canonical file.
 
 ghost use Rattle.std.specs.Prelude.{◌≡◌, ◌≤◌, ◌+◌, Ok, Err, Some, None, length, map, OnOk, IfErr};
 ghost use Rattle.hf_base.specs.declared.limits.TheConstants.{FILE, EDITS as MOST};
 ghost use Rattle.hf_store.specs.Changes.{step, why};
 ghost use Rattle.hf_text.specs.Commands.{edit_of};
-ghost use Rattle.hf_app.specs.Edits.{Edits, Steps, stepped};
+ghost use Rattle.hf_app.specs.Edits.{Edits, Opens, Steps, stepped};
 ghost use Rattle.hf_app.specs.declared.editing.Stop.TheVariants.{NoMemory as no_memory};
 
-use crate::canonical::canonical_file;
-use crate::opening::open_store;
 use hf_base::{NoMemory, OpenFault, ReadRefusal};
+use hf_plan::{Plan, plan};
+use hf_read::open_store;
 use hf_store::{Reason, Store, remove_item};
 use hf_text::EditWord;
 use std::alloc::Global;
@@ -59,17 +59,31 @@ fn apply_all(store: &mut Store<'_>, edits: &[EditWord]) -> Result<(), Stop>
     Ok(())
 }
 
-/// The canonical file of the store that a file denotes, after these edits in order.
-pub fn edited(alloc: Global, file: &[u8], edits: &[EditWord]) -> Result<Vec<u8>, Stop>
+/// The store that a file denotes.
+fn opened<'a>(alloc: Global, file: &'a [u8]) -> Result<Store<'a>, Stop>
+    requires { length file.now ≤ FILE }
+    ensures { Opens file.now result }
+{
+    match open_store(alloc, file) {
+        Ok(store) => Ok(store),
+        Err(OpenFault::Unfit(why)) => Err(Stop::Unfit(why)),
+        Err(OpenFault::NoMemory) => Err(Stop::NoMemory),
+    }
+}
+
+/// The store that a file denotes, after these edits in order, and the plan of its canonical file.
+pub fn edited<'a>(
+    alloc: Global,
+    file: &'a [u8],
+    edits: &[EditWord],
+) -> Result<(Store<'a>, Plan), Stop>
     requires file { length file.now ≤ FILE }
     requires edits { length edits.now ≤ MOST }
     ensures { Edits file.now (map edit_of edits.now) result }
 {
-    let mut store = match open_store(alloc, file) {
-        Ok(store) => store,
-        Err(OpenFault::Unfit(why)) => return Err(Stop::Unfit(why)),
-        Err(OpenFault::NoMemory) => return Err(Stop::NoMemory),
-    };
+    let mut store = opened(alloc, file)?;
     apply_all(&mut store, edits)?;
-    Ok(canonical_file(alloc, &store)?)
+    store.valid();
+    let plan = plan(alloc, &store)?;
+    Ok((store, plan))
 }

@@ -7,6 +7,7 @@ ghost use Rattle.hf_app.specs.Answers.{Answers, Ends, ForDue, IsQuiet, HasCause,
 
 use crate::boxes::say_boxes;
 use crate::edit::edit_file;
+use crate::list::say_items;
 use hf_desk::Desk;
 use hf_text::{Command, Outcome, WordsFault, read_words};
 use std::alloc::Global;
@@ -41,6 +42,7 @@ pub fn run<D: Desk>(alloc: Global, words: &[String], desk: &mut D) -> Outcome
 {
     match read_words(alloc, words) {
         Ok(Command::Boxes { input }) => say_boxes(alloc, words[input].as_str(), desk),
+        Ok(Command::List { input }) => say_items(alloc, words[input].as_str(), desk),
         Ok(Command::Edit { input, out, edits }) => {
             edit_file(
                 alloc,

@@ -42,6 +42,7 @@ pub mod Sizes
 pub mod Spots
 pub mod Tables
 pub mod Tallied
+pub mod TestStores
 pub mod Uses
 pub mod ValidPairs
 pub mod ValidStores

@@ -25,3 +25,6 @@ pub use reason::Reason;
 pub use removal::{needed_by, remove_item};
 pub use store::{Parts, Store};
 pub use tally::{Counts, in_idat};
+
+#[cfg(test)]
+mod tests;

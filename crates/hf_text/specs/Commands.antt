@@ -2,12 +2,12 @@
 use Rattle.std.specs.Prelude.{◌≡◌, ◌<◌, ℕ, List, [], ◌∷◌, ◌++◌, length, get_or, map, Result, Ok, Err, IfOk, IsOk}
 use Rattle.std.specs.Global.{Vec}
 use Rattle.hf_base.specs.declared.fault.NoMemory.{NoMemory as NoRoom}
-use Rattle.hf_text.specs.Words.{Command, Boxes, EditFile}
+use Rattle.hf_text.specs.Words.{Command, Boxes, ListFile, EditFile}
 use Rattle.hf_store.specs.Changes.{Edit, Remove}
 use Rattle.hf_text.specs.declared.words.EditWord.{EditWord}
 use Rattle.hf_text.specs.declared.words.EditWord.TheVariants.{Remove as RemoveWord}
 use Rattle.hf_text.specs.declared.words.Command.{Command as CommandWords}
-use Rattle.hf_text.specs.declared.words.Command.TheVariants.{Boxes as BoxesWords, Edit as EditWords}
+use Rattle.hf_text.specs.declared.words.Command.TheVariants.{Boxes as BoxesWords, List as ListWords, Edit as EditWords}
 use Rattle.hf_text.specs.declared.words.WordsFault.{WordsFault}
 use Rattle.hf_text.specs.declared.words.WordsFault.TheVariants.{Usage, NoMemory}
 
@@ -17,11 +17,13 @@ edit_of (RemoveWord id) = Remove id
 -- the command with the words that stand at its places
 abbrev pub command_of : List (List ℕ) → CommandWords → Command
 command_of words (BoxesWords input) = Boxes (get_or words input [])
+command_of words (ListWords input) = ListFile (get_or words input [])
 command_of words (EditWords input out edits) = EditFile (get_or words input []) (get_or words out []) (map edit_of edits.items)
 
 -- a word stands at each of its places
 abbrev pub NamesWords : List (List ℕ) → CommandWords → Type 0
 NamesWords words (BoxesWords input) = input < length words
+NamesWords words (ListWords input) = input < length words
 NamesWords words (EditWords input out edits) = (input < length words) × (out < length words)
 
 -- the command that is read, or its place of usage, or memory was refused where a command reads
@@ -29,6 +31,12 @@ abbrev pub IsRead : List (List ℕ) → Result Command ℕ → Result CommandWor
 IsRead words read (Ok command) = read ≡ Ok (command_of words command)
 IsRead words read (Err (Usage at)) = read ≡ Err at
 IsRead words read (Err NoMemory) = IsOk read
+
+-- the command over the one file at this place, or its place of usage
+abbrev pub IsFileRead : (List ℕ → Command) → List (List ℕ) → Result Command ℕ → Result ℕ WordsFault → Type 0
+IsFileRead command words read (Ok at) = read ≡ Ok (command (get_or words at []))
+IsFileRead command words read (Err (Usage at)) = read ≡ Err at
+IsFileRead command words read (Err NoMemory) = ⊥
 
 -- the same of edits
 abbrev pub AreRead : Result (List Edit) ℕ → Result (Vec EditWord) WordsFault → Type 0

@@ -1,5 +1,7 @@
 pub mod Commands
 pub mod Lines
+pub mod Listing
 pub mod Parts
 pub mod Texts
 pub mod Words
+pub mod WorkedListings

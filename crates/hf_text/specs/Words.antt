@@ -10,6 +10,8 @@ use Rattle.hf_store.specs.Changes.{Edit, Remove}
 pub data Command : Type 0 where
   -- says the boxes of the file with this name
   Boxes : List ℕ → Command
+  -- says the items of the file with this name
+  ListFile : List ℕ → Command
   -- makes the file with the second name: the file with the first after these edits, in order
   EditFile : List ℕ → List ℕ → List Edit → Command
 
@@ -20,6 +22,7 @@ IsEdit (Remove id) = id < 256 ^ 4
 -- at most EDITS edits
 abbrev pub IsCommand : Command → Type 0
 IsCommand (Boxes input) = Unit {0}
+IsCommand (ListFile input) = Unit {0}
 IsCommand (EditFile input out edits) = AllByRecursion IsEdit edits × (length edits ≤ EDITS)
 
 -- the words of an edit: an id is a decimal number without leading zeros
@@ -29,6 +32,7 @@ words_of_edit (Remove id) = codes "remove" ∷ decimal id ∷ []
 -- the words of a command
 abbrev pub words_of : Command → List (List ℕ)
 words_of (Boxes input) = codes "boxes" ∷ input ∷ []
+words_of (ListFile input) = codes "list" ∷ input ∷ []
 words_of (EditFile input out edits) = codes "edit" ∷ input ∷ out ∷ flat_map words_of_edit edits
 
 -- these words are the command
@@ -48,6 +52,9 @@ pub record IsUsageAt (words : List (List ℕ)) (at : ℕ) : Type 0 where
 
 abbrev pub is_boxes : List ℕ → Bool
 is_boxes word = bytes_eq word (codes "boxes")
+
+abbrev pub is_list : List ℕ → Bool
+is_list word = bytes_eq word (codes "list")
 
 abbrev pub is_edit : List ℕ → Bool
 is_edit word = bytes_eq word (codes "edit")
@@ -98,12 +105,13 @@ edit_file_read [] = Err 1
 edit_file_read (input ∷ []) = Err 2
 edit_file_read (input ∷ out ∷ words) = edit_file input out (edits_read EDITS 3 words)
 
--- the words behind `boxes`
-abbrev pub boxes_read : List (List ℕ) → Result Command ℕ
-boxes_read [] = Err 1
-boxes_read (input ∷ []) = Ok (Boxes input)
-boxes_read (input ∷ more ∷ words) = Err 2
+-- the words behind the name of a command that takes one file
+abbrev pub file_read : (List ℕ → Command) → List (List ℕ) → Result Command ℕ
+file_read command [] = Err 1
+file_read command (input ∷ []) = Ok (command input)
+file_read command (input ∷ more ∷ words) = Err 2
 
 abbrev pub command_read : List (List ℕ) → Result Command ℕ
 command_read [] = Err 0
-command_read (word ∷ words) = if is_boxes word then boxes_read words else (if is_edit word then edit_file_read words else Err 0)
+command_read (word ∷ words) =
+    if is_boxes word then file_read Boxes words else if is_list word then file_read ListFile words else if is_edit word then edit_file_read words else Err 0

@@ -3,13 +3,16 @@
 
 pub mod laws;
 mod line;
+mod listing;
 mod outcome;
 mod parts;
 mod rows;
 mod text;
 mod words;
+pub mod worked;
 
 pub use line::line_of;
+pub use listing::say_list;
 pub use outcome::{Outcome, status};
 pub use rows::say_rows;
 pub use words::{Command, EditWord, WordsFault, read_words};

@@ -24,9 +24,11 @@ fn usage_of(read: Result<Command, WordsFault>) -> Option<usize> {
 
 #[test]
 fn words_that_are_no_command_have_a_place(rt: HostRuntime) -> Result<(), Fail> {
-    let cases: [(&[&str], usize); 12] = [
+    let cases: [(&[&str], usize); 14] = [
         (&[], 0),
-        (&["list"], 0),
+        (&["show"], 0),
+        (&["list"], 1),
+        (&["list", "a", "b"], 2),
         (&["boxes"], 1),
         (&["boxes", "a", "b"], 2),
         (&["edit"], 1),

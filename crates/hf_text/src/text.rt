@@ -1,7 +1,8 @@
 //! Types and numbers as text, on the stack.
 
-ghost use Rattle.std.specs.Prelude.{◌≡◌, ◌+◌, ◌<◌, ◌≤◌, ◌++◌, length};
-ghost use Rattle.hf_text.specs.Texts.{byte_text, hex_digit_of, is_plain as is_plain_byte, type_text as text_of_type};
+ghost use Rattle.std.specs.Prelude.{◌≡◌, ◌+◌, ◌<◌, ◌≤◌, ◌++◌, length, take};
+ghost use Rattle.std.specs.List.{flat_map};
+ghost use Rattle.hf_text.specs.Texts.{byte_text as text_of_byte, hex_digit_of, is_plain as is_plain_byte, type_text as text_of_type};
 
 use arrayvec::ArrayString;
 use hf_base::FourCc;
@@ -29,7 +30,7 @@ fn hex_digit(n: u8) -> char
 /// Adds the text of a byte.
 fn push_byte<const N: usize>(text: &mut ArrayString<N>, byte: u8)
     requires { length text.old.bytes + 4 ≤ N }
-    ensures bytes { text.new.bytes ≡ text.old.bytes ++ byte_text byte }
+    ensures bytes { text.new.bytes ≡ text.old.bytes ++ text_of_byte byte }
     ensures short { length text.new.bytes ≤ length text.old.bytes + 4 }
 {
     if is_plain(byte) {
@@ -39,6 +40,27 @@ fn push_byte<const N: usize>(text: &mut ArrayString<N>, byte: u8)
     text.push_str("\\x");
     text.push(hex_digit(byte / 16));
     text.push(hex_digit(byte % 16));
+}
+
+/// A byte as it is printed.
+pub fn byte_text(byte: u8) -> ArrayString<4>
+    ensures { result.bytes ≡ text_of_byte byte }
+{
+    let mut text = ArrayString::new();
+    push_byte(&mut text, byte);
+    text
+}
+
+/// How many bytes at the front print as themselves.
+pub fn plain_count(bytes: &[u8]) -> usize
+    ensures within { result ≤ length bytes.now }
+    ensures plain { flat_map text_of_byte (take result bytes.now) ≡ take result bytes.now }
+{
+    let mut count = 0;
+    while count < bytes.len() && is_plain(bytes[count]) {
+        count += 1;
+    }
+    count
 }
 
 /// A type as it is printed, of at most 16 bytes.

@@ -1,10 +1,10 @@
 //! The words of the command line, read from left to right.
 
-ghost use Rattle.std.specs.Prelude.{◌≡◌, ◌+◌, ◌<◌, ◌≤◌, length, drop, map, string_bytes, IfOk};
+ghost use Rattle.std.specs.Prelude.{◌≡◌, ◌+◌, ◌<◌, ◌≤◌, ℕ, List, length, drop, map, string_bytes, IfOk};
 ghost use Rattle.hf_base.specs.declared.limits.TheConstants.{EDITS as MOST};
-ghost use Rattle.hf_text.specs.Words.{boxes_read, command_read, edit_file_read, edit_read, edits_read, id_of as id_of_word, words_of_edit};
+ghost use Rattle.hf_text.specs.Words.{Command as Words, command_read, edit_file_read, edit_read, edits_read, file_read, id_of as id_of_word, words_of_edit};
 ghost use Rattle.hf_text.specs.declared.words.WordsFault.TheVariants.{NoMemory as no_memory};
-ghost use Rattle.hf_text.specs.Commands.{AreRead, IsEditRead, IsPushed, IsRead, NamesWords, edit_of};
+ghost use Rattle.hf_text.specs.Commands.{AreRead, IsEditRead, IsFileRead, IsPushed, IsRead, NamesWords, edit_of};
 
 use hf_base::NoMemory;
 use hf_base::limits::EDITS;
@@ -23,6 +23,10 @@ pub enum EditWord {
 pub enum Command {
     /// Says the boxes of the file `input`.
     Boxes {
+        input: usize,
+    },
+    /// Says the items of the file `input`.
+    List {
         input: usize,
     },
     /// Makes the file `out`: the file `input` after these edits, in order.
@@ -124,14 +128,14 @@ fn read_edits(alloc: Global, words: &[String]) -> Result<Vec<EditWord>, WordsFau
     Ok(edits?)
 }
 
-/// The command where the first word is `boxes`.
-fn read_boxes(words: &[String]) -> Result<Command, WordsFault>
+/// The one file that a command takes, named by the place of its word.
+fn read_file(words: &[String]) -> Result<usize, WordsFault>
     requires { 1 ≤ length words.now }
-    ensures read { IsRead (map string_bytes words.now) (boxes_read (drop 1 (map string_bytes words.now))) result }
-    ensures names { IfOk result (λ command. NamesWords (map string_bytes words.now) command) }
+    ensures read { (command : List ℕ → Words) → IsFileRead command (map string_bytes words.now) (file_read command (drop 1 (map string_bytes words.now))) result }
+    ensures names { IfOk result (λ at. at < length words.now) }
 {
     if words.len() == 2 {
-        Ok(Command::Boxes { input: 1 })
+        Ok(1)
     } else {
         Err(WordsFault::Usage {
             at: words.len().min(2),
@@ -164,7 +168,12 @@ pub fn read_words(alloc: Global, words: &[String]) -> Result<Command, WordsFault
     ensures names { IfOk result (λ command. NamesWords (map string_bytes words.now) command) }
 {
     match words {
-        [word, ..] if word.as_str() == "boxes" => read_boxes(words),
+        [word, ..] if word.as_str() == "boxes" => Ok(Command::Boxes {
+            input: read_file(words)?,
+        }),
+        [word, ..] if word.as_str() == "list" => Ok(Command::List {
+            input: read_file(words)?,
+        }),
         [word, ..] if word.as_str() == "edit" => read_edit_file(alloc, words),
         _ => Err(WordsFault::Usage { at: 0 }),
     }

@@ -1,5 +1,7 @@
 -- The stores that rows say.
-use Rattle.std.specs.Prelude.{◌^◌, ◌≤◌, List, length, map}
+use Rattle.std.specs.Prelude.{◌^◌, ◌≤◌, ℕ, List, length, map}
+use Rattle.std.specs.Borrow.{Bor}
+use Rattle.std.specs.List.{flat_map}
 use Rattle.hf_head.specs.Ftyp.{brands_of}
 use Rattle.hf_store.specs.Store.{Held, Item, Group, ItemStore}
 use Rattle.hf_store.specs.declared.item.RefList.{RefList}
@@ -15,6 +17,10 @@ prop_row r = record { essential = r.essential; prop = record { kind = r.kind; bo
 abbrev pub ref_row : RefRow → RefList
 ref_row r = record { kind = r.kind; to = r.to.now }
 
+-- the bytes of pieces, joined
+abbrev pub pieces_bytes : List (Bor (List ℕ)) → List ℕ
+pieces_bytes ps = flat_map (λ (p : Bor (List ℕ)). p.now) ps
+
 abbrev pub item_row : ItemRow → Item
 item_row r = record {
   id = r.id;
@@ -24,7 +30,7 @@ item_row r = record {
   content = r.content.now;
   encoding = r.encoding.now;
   uri = r.uri.now;
-  bytes = r.body.now;
+  bytes = pieces_bytes r.body.now;
   props = map prop_row r.props.now;
   refs = map ref_row r.refs.now;
 }
@@ -37,4 +43,4 @@ store_rows r = record { brands = brands_of r.brands; primary = r.primary; items 
 
 -- its bytes can be lent in pieces
 abbrev pub IsLight : ItemRow → Type 0
-IsLight r = length r.body.now ≤ 2 ^ 62
+IsLight r = length (pieces_bytes r.body.now) ≤ 2 ^ 62

@@ -7,139 +7,184 @@ use hf_base::FourCc;
 use hf_head::Brands;
 use std::test::Fail;
 
-/// An overlay of 314 bytes.
-const LONG_OVERLAY: [u8; 314] =
-    *b"\0\0\0\0\0\0\0\0\0\0\0\x08\0\x08\0\0\0\0\0\0\0\0\0\0\0\0\0\0\0\0\0\0\0\0\0\0\0\0\0\0\0\0\0\0\0\0\0\0\0\0\0\0\0\0\0\0\0\0\0\0\0\0\0\0\0\0\0\0\0\0\0\0\0\0\0\0\0\0\0\0\0\0\0\0\0\0\0\0\0\0\0\0\0\0\0\0\0\0\0\0\0\0\0\0\0\0\0\0\0\0\0\0\0\0\0\0\0\0\0\0\0\0\0\0\0\0\0\0\0\0\0\0\0\0\0\0\0\0\0\0\0\0\0\0\0\0\0\0\0\0\0\0\0\0\0\0\0\0\0\0\0\0\0\0\0\0\0\0\0\0\0\0\0\0\0\0\0\0\0\0\0\0\0\0\0\0\0\0\0\0\0\0\0\0\0\0\0\0\0\0\0\0\0\0\0\0\0\0\0\0\0\0\0\0\0\0\0\0\0\0\0\0\0\0\0\0\0\0\0\0\0\0\0\0\0\0\0\0\0\0\0\0\0\0\0\0\0\0\0\0\0\0\0\0\0\0\0\0\0\0\0\0\0\0\0\0\0\0\0\0\0\0\0\0\0\0\0\0\0\0\0\0\0\0\0\0\0\0\0\0\0\0\0\0\0\0\0\0\0\0\0\0\0\0\0\0\0\0\0\0\0\0\0\0";
+/// `mif1`, compatible with `heic` and `msf1`.
+const BRANDS: Brands<'static> = Brands {
+    major: FourCc(*b"mif1"),
+    minor: 7,
+    compatible: b"heicmsf1",
+};
+
+/// A hidden picture with a name and two properties.
+const TILE: ItemRow<'static> = ItemRow {
+    hidden: true,
+    name: b"tile",
+    props: &[
+        PropRow {
+            essential: true,
+            kind: FourCc(*b"hvcC"),
+            body: b"\x01\x02",
+        },
+        FOUR_BY_FOUR,
+    ],
+    ..PICTURE
+};
+
+/// A picture with both of these properties, and one more.
+const TURNED: ItemRow<'static> = ItemRow {
+    id: 2,
+    body: &[b"\xdd"],
+    props: &[
+        FOUR_BY_FOUR,
+        PropRow {
+            essential: true,
+            kind: FourCc(*b"hvcC"),
+            body: b"\x01\x02",
+        },
+        PropRow {
+            essential: true,
+            kind: FourCc(*b"irot"),
+            body: b"\x03",
+        },
+    ],
+    ..EMPTY
+};
+
+/// A grid of these two.
+const GRID: ItemRow<'static> = ItemRow {
+    id: 3,
+    kind: FourCc(*b"grid"),
+    name: b"IMG",
+    body: &[b"\0\0\0\x01\0\x08\0\x04"],
+    props: &[FOUR_BY_FOUR],
+    refs: &[
+        RefRow {
+            kind: FourCc(*b"auxl"),
+            to: &[1],
+        },
+        RefRow {
+            kind: FourCc(*b"dimg"),
+            to: &[1, 2],
+        },
+    ],
+    ..EMPTY
+};
+
+/// An item with a content type and an encoding.
+const XMP: ItemRow<'static> = ItemRow {
+    id: 5,
+    kind: FourCc(*b"mime"),
+    body: &[b"<x/>"],
+    content: b"application/rdf+xml",
+    encoding: b"gzip",
+    refs: &[RefRow {
+        kind: FourCc(*b"cdsc"),
+        to: &[3],
+    }],
+    ..EMPTY
+};
+
+/// An item with a content type alone.
+const TEXT: ItemRow<'static> = ItemRow {
+    id: 6,
+    kind: FourCc(*b"mime"),
+    body: &[b"hi"],
+    content: b"text/plain",
+    ..EMPTY
+};
+
+/// An item without bytes and content type.
+const NO_BYTES: ItemRow<'static> = ItemRow {
+    id: 7,
+    kind: FourCc(*b"mime"),
+    ..EMPTY
+};
+
+/// An item whose type is a URI.
+const NAMED_BY_URI: ItemRow<'static> = ItemRow {
+    id: 8,
+    kind: FourCc(*b"uri "),
+    body: &[b"u"],
+    uri: b"urn:x",
+    refs: &[RefRow {
+        kind: FourCc(*b"cdsc"),
+        to: &[1, 3],
+    }],
+    ..EMPTY
+};
+
+/// An overlay in `idat`.
+const OVERLAY: ItemRow<'static> = ItemRow {
+    id: 9,
+    kind: FourCc(*b"iovl"),
+    body: &[b"\0\0\0\0\0\0\0\0\0\0\0\x08\0\x08\xff\xff\0\x01"],
+    refs: &[RefRow {
+        kind: FourCc(*b"dimg"),
+        to: &[2],
+    }],
+    ..EMPTY
+};
+
+/// An overlay that is too long for it.
+const LONG_OVERLAY: ItemRow<'static> = ItemRow {
+    id: 10,
+    kind: FourCc(*b"iovl"),
+    body: &[b"\0\0\0\0\0\0\0\0\0\0\0\x08\0\x08", &[0; 300]],
+    ..EMPTY
+};
+
+/// A picture behind it.
+const LAST: ItemRow<'static> = ItemRow { id: 11, ..PICTURE };
+
+/// An item with an id of four bytes, which refers to itself.
+const WIDE: ItemRow<'static> = ItemRow {
+    id: 4294967294,
+    kind: FourCc(*b"uri "),
+    body: &[b"\xdd"],
+    props: &[FOUR_BY_FOUR],
+    refs: &[RefRow {
+        kind: FourCc(*b"cdsc"),
+        to: &[11, 4294967294],
+    }],
+    ..EMPTY
+};
+
+/// A group of two items.
+const ALTERNATIVES: GroupRow<'static> = GroupRow {
+    kind: FourCc(*b"altr"),
+    version: 0,
+    flags: 0,
+    id: 0,
+    entities: &[3, 2],
+    tail: b"",
+};
+
+/// A group with bytes behind its entities.
+const STEREO: GroupRow<'static> = GroupRow {
+    kind: FourCc(*b"ster"),
+    version: 1,
+    flags: 0x0a_0b0c,
+    id: 77,
+    entities: &[1],
+    tail: b"\x09\x08",
+};
 
 /// Strings, hidden items, references, shared properties, groups with a tail, items in `idat` and in `mdat`.
 const EVERY_FEATURE: StoreRows<'static> = StoreRows {
-    brands: Brands {
-        major: FourCc(*b"mif1"),
-        minor: 7,
-        compatible: b"heicmsf1",
-    },
+    brands: BRANDS,
     primary: 3,
     items: &[
-        ItemRow {
-            hidden: true,
-            name: b"tile",
-            props: &[
-                PropRow {
-                    essential: true,
-                    kind: FourCc(*b"hvcC"),
-                    body: b"\x01\x02",
-                },
-                FOUR_BY_FOUR,
-            ],
-            ..PICTURE
-        },
-        ItemRow {
-            id: 2,
-            body: b"\xdd",
-            props: &[
-                FOUR_BY_FOUR,
-                PropRow {
-                    essential: true,
-                    kind: FourCc(*b"hvcC"),
-                    body: b"\x01\x02",
-                },
-                PropRow {
-                    essential: true,
-                    kind: FourCc(*b"irot"),
-                    body: b"\x03",
-                },
-            ],
-            ..EMPTY
-        },
-        ItemRow {
-            id: 3,
-            kind: FourCc(*b"grid"),
-            name: b"IMG",
-            body: b"\x00\x00\x00\x01\x00\x08\x00\x04",
-            props: &[FOUR_BY_FOUR],
-            refs: &[
-                RefRow {
-                    kind: FourCc(*b"auxl"),
-                    to: &[1],
-                },
-                RefRow {
-                    kind: FourCc(*b"dimg"),
-                    to: &[1, 2],
-                },
-            ],
-            ..EMPTY
-        },
-        ItemRow {
-            id: 5,
-            kind: FourCc(*b"mime"),
-            body: b"<x/>",
-            content: b"application/rdf+xml",
-            encoding: b"gzip",
-            refs: &[RefRow {
-                kind: FourCc(*b"cdsc"),
-                to: &[3],
-            }],
-            ..EMPTY
-        },
-        ItemRow {
-            id: 6,
-            kind: FourCc(*b"mime"),
-            body: b"hi",
-            content: b"text/plain",
-            ..EMPTY
-        },
-        ItemRow {
-            id: 7,
-            kind: FourCc(*b"mime"),
-            ..EMPTY
-        },
-        ItemRow {
-            id: 8,
-            kind: FourCc(*b"uri "),
-            body: b"u",
-            uri: b"urn:x",
-            refs: &[RefRow {
-                kind: FourCc(*b"cdsc"),
-                to: &[1, 3],
-            }],
-            ..EMPTY
-        },
-        ItemRow {
-            id: 9,
-            kind: FourCc(*b"iovl"),
-            body: b"\x00\x00\x00\x00\x00\x00\x00\x00\x00\x00\x00\x08\x00\x08\xff\xff\x00\x01",
-            refs: &[RefRow {
-                kind: FourCc(*b"dimg"),
-                to: &[2],
-            }],
-            ..EMPTY
-        },
-        ItemRow {
-            id: 10,
-            kind: FourCc(*b"iovl"),
-            body: &LONG_OVERLAY,
-            ..EMPTY
-        },
-        ItemRow { id: 11, ..PICTURE },
+        TILE,
+        TURNED,
+        GRID,
+        XMP,
+        TEXT,
+        NO_BYTES,
+        NAMED_BY_URI,
+        OVERLAY,
+        LONG_OVERLAY,
+        LAST,
     ],
-    groups: &[
-        GroupRow {
-            kind: FourCc(*b"altr"),
-            version: 0,
-            flags: 0,
-            id: 0,
-            entities: &[3, 2],
-            tail: b"",
-        },
-        GroupRow {
-            kind: FourCc(*b"ster"),
-            version: 1,
-            flags: 0x0a_0b0c,
-            id: 77,
-            entities: &[1],
-            tail: b"\x09\x08",
-        },
-    ],
+    groups: &[ALTERNATIVES, STEREO],
 };
 
 /// 1121 bytes.
@@ -189,144 +234,22 @@ const EVERY_FEATURE_FILE: &str = "00000018667479706d69663100000007686569636d7366
 
 /// The same and one id that takes four bytes.
 const EVERY_FEATURE_WIDE: StoreRows<'static> = StoreRows {
-    brands: Brands {
-        major: FourCc(*b"mif1"),
-        minor: 7,
-        compatible: b"heicmsf1",
-    },
+    brands: BRANDS,
     primary: 3,
     items: &[
-        ItemRow {
-            hidden: true,
-            name: b"tile",
-            props: &[
-                PropRow {
-                    essential: true,
-                    kind: FourCc(*b"hvcC"),
-                    body: b"\x01\x02",
-                },
-                FOUR_BY_FOUR,
-            ],
-            ..PICTURE
-        },
-        ItemRow {
-            id: 2,
-            body: b"\xdd",
-            props: &[
-                FOUR_BY_FOUR,
-                PropRow {
-                    essential: true,
-                    kind: FourCc(*b"hvcC"),
-                    body: b"\x01\x02",
-                },
-                PropRow {
-                    essential: true,
-                    kind: FourCc(*b"irot"),
-                    body: b"\x03",
-                },
-            ],
-            ..EMPTY
-        },
-        ItemRow {
-            id: 3,
-            kind: FourCc(*b"grid"),
-            name: b"IMG",
-            body: b"\x00\x00\x00\x01\x00\x08\x00\x04",
-            props: &[FOUR_BY_FOUR],
-            refs: &[
-                RefRow {
-                    kind: FourCc(*b"auxl"),
-                    to: &[1],
-                },
-                RefRow {
-                    kind: FourCc(*b"dimg"),
-                    to: &[1, 2],
-                },
-            ],
-            ..EMPTY
-        },
-        ItemRow {
-            id: 5,
-            kind: FourCc(*b"mime"),
-            body: b"<x/>",
-            content: b"application/rdf+xml",
-            encoding: b"gzip",
-            refs: &[RefRow {
-                kind: FourCc(*b"cdsc"),
-                to: &[3],
-            }],
-            ..EMPTY
-        },
-        ItemRow {
-            id: 6,
-            kind: FourCc(*b"mime"),
-            body: b"hi",
-            content: b"text/plain",
-            ..EMPTY
-        },
-        ItemRow {
-            id: 7,
-            kind: FourCc(*b"mime"),
-            ..EMPTY
-        },
-        ItemRow {
-            id: 8,
-            kind: FourCc(*b"uri "),
-            body: b"u",
-            uri: b"urn:x",
-            refs: &[RefRow {
-                kind: FourCc(*b"cdsc"),
-                to: &[1, 3],
-            }],
-            ..EMPTY
-        },
-        ItemRow {
-            id: 9,
-            kind: FourCc(*b"iovl"),
-            body: b"\x00\x00\x00\x00\x00\x00\x00\x00\x00\x00\x00\x08\x00\x08\xff\xff\x00\x01",
-            refs: &[RefRow {
-                kind: FourCc(*b"dimg"),
-                to: &[2],
-            }],
-            ..EMPTY
-        },
-        ItemRow {
-            id: 10,
-            kind: FourCc(*b"iovl"),
-            body: &LONG_OVERLAY,
-            ..EMPTY
-        },
-        ItemRow { id: 11, ..PICTURE },
-        ItemRow {
-            id: 4294967294,
-            kind: FourCc(*b"uri "),
-            body: b"\xdd",
-            props: &[FOUR_BY_FOUR],
-            refs: &[RefRow {
-                kind: FourCc(*b"cdsc"),
-                to: &[11, 4294967294],
-            }],
-            ..EMPTY
-        },
+        TILE,
+        TURNED,
+        GRID,
+        XMP,
+        TEXT,
+        NO_BYTES,
+        NAMED_BY_URI,
+        OVERLAY,
+        LONG_OVERLAY,
+        LAST,
+        WIDE,
     ],
-    groups: &[
-        GroupRow {
-            kind: FourCc(*b"altr"),
-            version: 0,
-            flags: 0,
-            id: 0,
-            entities: &[3, 2],
-            tail: b"",
-        },
-        GroupRow {
-            kind: FourCc(*b"ster"),
-            version: 1,
-            flags: 0x0a_0b0c,
-            id: 77,
-            entities: &[1],
-            tail: b"\x09\x08",
-        },
-    ],
+    groups: &[ALTERNATIVES, STEREO],
 };
 
 /// 1266 bytes.

@@ -99,7 +99,7 @@ const TWO_WIDTHS: StoreRows<'static> = StoreRows {
         PICTURE,
         ItemRow {
             id: 70000,
-            body: b"\xdd",
+            body: &[b"\xdd"],
             ..EMPTY
         },
     ],

@@ -3,9 +3,10 @@
 ghost use Rattle.std.specs.Prelude.{◌≡◌, ◌≤◌, ◌^◌, length, map, IfOk};
 ghost use Rattle.std.specs.List.{AllByRecursion};
 ghost use Rattle.hf_links.specs.Grpl.{groups_of};
+ghost use Rattle.hf_pieces.specs.Bytes.{joined};
 ghost use Rattle.hf_store.specs.Seen.{item_of, items_of};
 ghost use Rattle.hf_store.specs.Valid.{IsSound};
-ghost use Rattle.hf_written.specs.Rows.{group_row, item_row, prop_row, ref_row, store_rows, IsLight};
+ghost use Rattle.hf_written.specs.Rows.{group_row, item_row, prop_row, ref_row, pieces_bytes, store_rows, IsLight};
 
 use crate::rows::{GroupRow, ItemRow, PropRow, RefRow, StoreRows};
 use hf_base::{Ids, NoMemory, OpenFault, Series};
@@ -52,12 +53,22 @@ fn make_refs(alloc: Global, rows: &[RefRow<'_>]) -> Result<Refs, NoMemory>
     Ok(refs)
 }
 
+fn make_body<'a>(alloc: Global, pieces: &[&'a [u8]]) -> Result<Pieces<'a>, NoMemory>
+    requires { length (pieces_bytes pieces.now) ≤ 2 ^ 62 }
+    ensures { IfOk result (λ body. joined body ≡ pieces_bytes pieces.now) }
+{
+    let mut body = Pieces::new(alloc);
+    for piece in pieces {
+        body.push(piece)?;
+    }
+    Ok(body)
+}
+
 fn make_item<'a>(alloc: Global, row: &ItemRow<'a>) -> Result<Item<'a>, NoMemory>
     requires { IsLight row.now }
     ensures { IfOk result (λ item. item_of item ≡ item_row row.now) }
 {
-    let mut body = Pieces::new(alloc);
-    body.push(row.body)?;
+    let body = make_body(alloc, row.body)?;
     let props = make_props(alloc, row.props)?;
     let refs = make_refs(alloc, row.refs)?;
     Ok(Item {

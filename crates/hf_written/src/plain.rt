@@ -20,14 +20,14 @@ pub(crate) const EMPTY: ItemRow<'static> = ItemRow {
     content: b"",
     encoding: b"",
     uri: b"",
-    body: b"",
+    body: &[],
     props: &[],
     refs: &[],
 };
 
 /// A picture of three bytes.
 pub(crate) const PICTURE: ItemRow<'static> = ItemRow {
-    body: b"\xaa\xbb\xcc",
+    body: &[b"\xaa\xbb\xcc"],
     ..EMPTY
 };
 

@@ -49,7 +49,7 @@ const IDENTITY_WITH_BYTES: StoreRows<'static> = StoreRows {
         ItemRow {
             id: 2,
             kind: FourCc(*b"iden"),
-            body: b"\xdd\xee",
+            body: &[b"\xdd\xee"],
             refs: &[RefRow {
                 kind: FourCc(*b"dimg"),
                 to: &[1],
@@ -84,7 +84,7 @@ const TWO_ALTERNATIVES: StoreRows<'static> = StoreRows {
         PICTURE,
         ItemRow {
             id: 2,
-            body: b"\xdd",
+            body: &[b"\xdd"],
             ..EMPTY
         },
     ],
@@ -123,7 +123,7 @@ const PICTURE_WITH_EXIF: StoreRows<'static> = StoreRows {
         ItemRow {
             id: 2,
             kind: FourCc(*b"Exif"),
-            body: b"\x00\x00\x00\x00\x49\x49",
+            body: &[b"\x00\x00\x00\x00\x49\x49"],
             refs: &[RefRow {
                 kind: FourCc(*b"cdsc"),
                 to: &[1],
@@ -160,7 +160,7 @@ const PICTURE_WITH_XMP: StoreRows<'static> = StoreRows {
             id: 2,
             kind: FourCc(*b"mime"),
             content: b"application/rdf+xml",
-            body: b"II",
+            body: &[b"II"],
             refs: &[RefRow {
                 kind: FourCc(*b"cdsc"),
                 to: &[1],

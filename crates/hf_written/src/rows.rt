@@ -40,8 +40,8 @@ pub struct ItemRow<'a> {
     pub encoding: &'a [u8],
     /// The URI.
     pub uri: &'a [u8],
-    /// The bytes.
-    pub body: &'a [u8],
+    /// The bytes, in pieces.
+    pub body: &'a [&'a [u8]],
     /// The properties.
     pub props: &'a [PropRow<'a>],
     /// The references.

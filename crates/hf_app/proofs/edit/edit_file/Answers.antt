@@ -22,17 +22,17 @@ pub returns-in-Err-edited-clause-steady : goal.returns-in-Err-edited-clause-stea
 returns-in-Err-edited-clause-steady g c = λ steady free.
     rw c.refused.ensures (refused_steady (g.D.Desk.outside c.args.desk.now) (g.D.Desk.outside c.args.desk.now) c.args.input.now c.args.out.now c.in-Ok.file.items (map edit_of c.args.edits.now) c.in-Ok.ensures.whole c.in-Ok.ensures.within c.in-Err-edited.why (search rules))
 
-pub returns-in-Ok-make_file-clause-due : goal.returns-in-Ok-make_file-clause-due
-returns-in-Ok-make_file-clause-due g c =
-    done_edits (g.D.Desk.outside c.args.desk.now) _ c.args.input.now c.args.out.now c.in-Ok.file.items (map edit_of c.args.edits.now) c.in-Ok.ensures.whole c.in-Ok.ensures.within c.in-Ok-edited.bytes.items (search rules) (search rules) (search rules)
+pub returns-in-Ok-make_canonical-clause-due : goal.returns-in-Ok-make_canonical-clause-due
+returns-in-Ok-make_canonical-clause-due g c =
+    done_edits (g.D.Desk.outside c.args.desk.now) _ c.args.input.now c.args.out.now c.in-Ok.file.items (map edit_of c.args.edits.now) c.in-Ok.ensures.whole c.in-Ok.ensures.within c.make_canonical.ensures.file (c.in-Ok-edited.ensures.made _ c.make_canonical.ensures.canonical) (search rules) (search rules)
 
-pub returns-in-Ok-make_file-clause-steady : goal.returns-in-Ok-make_file-clause-steady
-returns-in-Ok-make_file-clause-steady g c = λ steady free.
-    steady_edits (g.D.Desk.outside c.args.desk.now) (g.D.Desk.outside c.args.desk.now) c.args.input.now c.args.out.now c.in-Ok.file.items (map edit_of c.args.edits.now) c.in-Ok.ensures.whole c.in-Ok.ensures.within c.in-Ok-edited.bytes.items (search rules)
+pub returns-in-Ok-make_canonical-clause-steady : goal.returns-in-Ok-make_canonical-clause-steady
+returns-in-Ok-make_canonical-clause-steady g c = λ steady free.
+    steady_edits (g.D.Desk.outside c.args.desk.now) (g.D.Desk.outside c.args.desk.now) c.args.input.now c.args.out.now c.in-Ok.file.items (map edit_of c.args.edits.now) c.in-Ok.ensures.whole c.in-Ok.ensures.within c.make_canonical.ensures.file (c.in-Ok-edited.ensures.made _ c.make_canonical.ensures.canonical)
 
 pub returns-clause-due : goal.returns-clause-due
 returns-clause-due g c =
-    broken_edits (g.D.Desk.outside c.args.desk.now) _ c.args.input.now c.args.out.now c.in-Ok.file.items (map edit_of c.args.edits.now) c.in-Ok.ensures.whole c.in-Ok.ensures.within c.in-Ok-edited.bytes.items (search rules) (search rules) (record { front = []; rest = []; whole = refl; said = search rules })
+    broken_edits (g.D.Desk.outside c.args.desk.now) _ c.args.input.now c.args.out.now c.in-Ok.file.items (map edit_of c.args.edits.now) c.in-Ok.ensures.whole c.in-Ok.ensures.within c.make_canonical.ensures.file (c.in-Ok-edited.ensures.made _ c.make_canonical.ensures.canonical) (search rules) (record { front = []; rest = []; whole = refl; said = search rules })
 
 pub returns-in-Err-clause-ends : goal.returns-in-Err-clause-ends
 returns-in-Err-clause-ends g c = rw c.stopped.ensures (ends_stopped (EditFile c.args.input.now c.args.out.now (map edit_of c.args.edits.now)) (g.D.Desk.outside c.args.desk.now) _ c.in-Err.why (λ e. c.in-Err.ensures.too_long (search rules)))
@@ -41,10 +41,10 @@ pub returns-in-Err-edited-clause-ends : goal.returns-in-Err-edited-clause-ends
 returns-in-Err-edited-clause-ends g c =
     rw c.refused.ensures (ends_as (EditFile c.args.input.now c.args.out.now (map edit_of c.args.edits.now)) (g.D.Desk.outside c.args.desk.now) _ c.in-Ok.file.items c.in-Ok.ensures.whole (outcome_of_stop c.in-Err-edited.why) (refused_due (g.D.Desk.outside c.args.desk.now) _ c.args.input.now c.args.out.now c.in-Ok.file.items (map edit_of c.args.edits.now) c.in-Ok.ensures.whole c.in-Ok.ensures.within c.in-Err-edited.why (search rules)))
 
-pub returns-in-Ok-make_file-clause-ends : goal.returns-in-Ok-make_file-clause-ends
-returns-in-Ok-make_file-clause-ends g c =
-    ends_as (EditFile c.args.input.now c.args.out.now (map edit_of c.args.edits.now)) (g.D.Desk.outside c.args.desk.now) _ c.in-Ok.file.items c.in-Ok.ensures.whole Done (done_edits (g.D.Desk.outside c.args.desk.now) _ c.args.input.now c.args.out.now c.in-Ok.file.items (map edit_of c.args.edits.now) c.in-Ok.ensures.whole c.in-Ok.ensures.within c.in-Ok-edited.bytes.items (search rules) (search rules) (search rules))
+pub returns-in-Ok-make_canonical-clause-ends : goal.returns-in-Ok-make_canonical-clause-ends
+returns-in-Ok-make_canonical-clause-ends g c =
+    ends_as (EditFile c.args.input.now c.args.out.now (map edit_of c.args.edits.now)) (g.D.Desk.outside c.args.desk.now) _ c.in-Ok.file.items c.in-Ok.ensures.whole Done (done_edits (g.D.Desk.outside c.args.desk.now) _ c.args.input.now c.args.out.now c.in-Ok.file.items (map edit_of c.args.edits.now) c.in-Ok.ensures.whole c.in-Ok.ensures.within c.make_canonical.ensures.file (c.in-Ok-edited.ensures.made _ c.make_canonical.ensures.canonical) (search rules) (search rules))
 
 pub returns-clause-ends : goal.returns-clause-ends
 returns-clause-ends g c =
-    ends_as (EditFile c.args.input.now c.args.out.now (map edit_of c.args.edits.now)) (g.D.Desk.outside c.args.desk.now) _ c.in-Ok.file.items c.in-Ok.ensures.whole WriteFault (broken_edits (g.D.Desk.outside c.args.desk.now) _ c.args.input.now c.args.out.now c.in-Ok.file.items (map edit_of c.args.edits.now) c.in-Ok.ensures.whole c.in-Ok.ensures.within c.in-Ok-edited.bytes.items (search rules) (search rules) (record { front = []; rest = []; whole = refl; said = search rules }))
+    ends_as (EditFile c.args.input.now c.args.out.now (map edit_of c.args.edits.now)) (g.D.Desk.outside c.args.desk.now) _ c.in-Ok.file.items c.in-Ok.ensures.whole WriteFault (broken_edits (g.D.Desk.outside c.args.desk.now) _ c.args.input.now c.args.out.now c.in-Ok.file.items (map edit_of c.args.edits.now) c.in-Ok.ensures.whole c.in-Ok.ensures.within c.make_canonical.ensures.file (c.in-Ok-edited.ensures.made _ c.make_canonical.ensures.canonical) (search rules) (record { front = []; rest = []; whole = refl; said = search rules }))

@@ -5,7 +5,7 @@ use Rattle.std.proofs.lemmas.List.{get_or-map, length-map}
 use Rattle.hf_desk.specs.Outside.{Outside}
 use Rattle.hf_store.specs.Changes.{Edit}
 use Rattle.hf_text.specs.Commands.{edit_of}
-use Rattle.hf_text.specs.Words.{Command, Boxes, EditFile, command_read}
+use Rattle.hf_text.specs.Words.{Command, Boxes, ListFile, EditFile, command_read}
 use Rattle.hf_text.specs.declared.outcome.Outcome.{Outcome}
 use Rattle.hf_app.specs.Answers.{Ends, OutIsFree}
 use Rattle.hf_text.proofs.WordLaws.{command-reads}
@@ -23,6 +23,9 @@ word_at words i word text less is e = get_or-map string_bytes words i word [] le
 boxes_read : (words : List (List ℕ)) (input : ℕ) (name : List ℕ) → command_read words ≡ Ok (Boxes (get_or words input [])) → get_or words input [] ≡ name → command_read words ≡ Ok (Boxes name)
 boxes_read words input name read e = read ∙ ap (λ (name : List ℕ). Ok (Boxes name)) e
 
+list_read : (words : List (List ℕ)) (input : ℕ) (name : List ℕ) → command_read words ≡ Ok (ListFile (get_or words input [])) → get_or words input [] ≡ name → command_read words ≡ Ok (ListFile name)
+list_read words input name read e = read ∙ ap (λ (name : List ℕ). Ok (ListFile name)) e
+
 edit_read : (words : List (List ℕ)) (input out : ℕ) (name made : List ℕ) (edits : List Edit) → command_read words ≡ Ok (EditFile (get_or words input []) (get_or words out []) edits) → get_or words input [] ≡ name → get_or words out [] ≡ made
     → command_read words ≡ Ok (EditFile name made edits)
 edit_read words input out name made edits read e f = read ∙ ap (λ (name : List ℕ). Ok (EditFile name (get_or words out []) edits)) e ∙ ap (λ (made : List ℕ). Ok (EditFile name made edits)) f
@@ -35,6 +38,14 @@ returns-in-Ok-Boxes-clause-due g c =
     let read : command_read words ≡ Ok (Boxes c.as_str.result.now) = boxes_read words c.in-Ok-Boxes.input c.as_str.result.now (rw c.in-Ok-Boxes.field-0-is at c.in-Ok-Boxes.ensures.read) name in
     due_of_words (Boxes c.as_str.result.now) (command_read words) (g.D.Desk.outside c.args.desk.now) (g.D.Desk.outside c.say_boxes.new.desk) c.say_boxes.result read c.say_boxes.ensures.due
 
+pub returns-in-Ok-List-clause-due : goal.returns-in-Ok-List-clause-due
+returns-in-Ok-List-clause-due g c =
+    let words = map string_bytes c.args.words.now in
+    let names = rw c.in-Ok-List.field-0-is at c.in-Ok-List.ensures.names in
+    let name : get_or words c.in-Ok-List.input [] ≡ c.as_str-in-Ok-List.result.now = word_at c.args.words.now c.in-Ok-List.input c.index-words-input-in-Ok-List.result c.as_str-in-Ok-List.result.now (named c.args.words.now c.in-Ok-List.input names) c.index-words-input-in-Ok-List.is c.as_str-in-Ok-List.ensures.value in
+    let read : command_read words ≡ Ok (ListFile c.as_str-in-Ok-List.result.now) = list_read words c.in-Ok-List.input c.as_str-in-Ok-List.result.now (rw c.in-Ok-List.field-0-is at c.in-Ok-List.ensures.read) name in
+    due_of_words (ListFile c.as_str-in-Ok-List.result.now) (command_read words) (g.D.Desk.outside c.args.desk.now) (g.D.Desk.outside c.say_items.new.desk) c.say_items.result read c.say_items.ensures.due
+
 pub returns-in-Ok-Boxes-clause-steady : goal.returns-in-Ok-Boxes-clause-steady
 returns-in-Ok-Boxes-clause-steady g c = λ steady free.
     let words = map string_bytes c.args.words.now in
@@ -43,6 +54,14 @@ returns-in-Ok-Boxes-clause-steady g c = λ steady free.
     let read : command_read words ≡ Ok (Boxes c.as_str.result.now) = boxes_read words c.in-Ok-Boxes.input c.as_str.result.now (rw c.in-Ok-Boxes.field-0-is at c.in-Ok-Boxes.ensures.read) name in
     steady_of_words (Boxes c.as_str.result.now) (command_read words) (g.D.Desk.outside c.args.desk.now) c.say_boxes.result read (c.say_boxes.ensures.steady steady)
 
+pub returns-in-Ok-List-clause-steady : goal.returns-in-Ok-List-clause-steady
+returns-in-Ok-List-clause-steady g c = λ steady free.
+    let words = map string_bytes c.args.words.now in
+    let names = rw c.in-Ok-List.field-0-is at c.in-Ok-List.ensures.names in
+    let name : get_or words c.in-Ok-List.input [] ≡ c.as_str-in-Ok-List.result.now = word_at c.args.words.now c.in-Ok-List.input c.index-words-input-in-Ok-List.result c.as_str-in-Ok-List.result.now (named c.args.words.now c.in-Ok-List.input names) c.index-words-input-in-Ok-List.is c.as_str-in-Ok-List.ensures.value in
+    let read : command_read words ≡ Ok (ListFile c.as_str-in-Ok-List.result.now) = list_read words c.in-Ok-List.input c.as_str-in-Ok-List.result.now (rw c.in-Ok-List.field-0-is at c.in-Ok-List.ensures.read) name in
+    steady_of_words (ListFile c.as_str-in-Ok-List.result.now) (command_read words) (g.D.Desk.outside c.args.desk.now) c.say_items.result read (c.say_items.ensures.steady steady)
+
 pub returns-in-Ok-Boxes-clause-complete : goal.returns-in-Ok-Boxes-clause-complete
 returns-in-Ok-Boxes-clause-complete g c =
     let words = map string_bytes c.args.words.now in
@@ -50,6 +69,14 @@ returns-in-Ok-Boxes-clause-complete g c =
     let name : get_or words c.in-Ok-Boxes.input [] ≡ c.as_str.result.now = word_at c.args.words.now c.in-Ok-Boxes.input c.index-words-input.result c.as_str.result.now (named c.args.words.now c.in-Ok-Boxes.input names) c.index-words-input.is c.as_str.ensures.value in
     let read : command_read words ≡ Ok (Boxes c.as_str.result.now) = boxes_read words c.in-Ok-Boxes.input c.as_str.result.now (rw c.in-Ok-Boxes.field-0-is at c.in-Ok-Boxes.ensures.read) name in
     complete_of_words (command_read words) (g.D.Desk.outside c.args.desk.now) (g.D.Desk.outside c.say_boxes.new.desk) c.say_boxes.result c.say_boxes.ensures.cause (due_of_words (Boxes c.as_str.result.now) (command_read words) (g.D.Desk.outside c.args.desk.now) (g.D.Desk.outside c.say_boxes.new.desk) c.say_boxes.result read c.say_boxes.ensures.due)
+
+pub returns-in-Ok-List-clause-complete : goal.returns-in-Ok-List-clause-complete
+returns-in-Ok-List-clause-complete g c =
+    let words = map string_bytes c.args.words.now in
+    let names = rw c.in-Ok-List.field-0-is at c.in-Ok-List.ensures.names in
+    let name : get_or words c.in-Ok-List.input [] ≡ c.as_str-in-Ok-List.result.now = word_at c.args.words.now c.in-Ok-List.input c.index-words-input-in-Ok-List.result c.as_str-in-Ok-List.result.now (named c.args.words.now c.in-Ok-List.input names) c.index-words-input-in-Ok-List.is c.as_str-in-Ok-List.ensures.value in
+    let read : command_read words ≡ Ok (ListFile c.as_str-in-Ok-List.result.now) = list_read words c.in-Ok-List.input c.as_str-in-Ok-List.result.now (rw c.in-Ok-List.field-0-is at c.in-Ok-List.ensures.read) name in
+    complete_of_words (command_read words) (g.D.Desk.outside c.args.desk.now) (g.D.Desk.outside c.say_items.new.desk) c.say_items.result c.say_items.ensures.cause (due_of_words (ListFile c.as_str-in-Ok-List.result.now) (command_read words) (g.D.Desk.outside c.args.desk.now) (g.D.Desk.outside c.say_items.new.desk) c.say_items.result read c.say_items.ensures.due)
 
 pub returns-in-Ok-Edit-clause-due : goal.returns-in-Ok-Edit-clause-due
 returns-in-Ok-Edit-clause-due g c =
@@ -112,6 +139,14 @@ returns-in-Ok-Boxes-clause-headline g c = λ command is.
     let name : get_or words c.in-Ok-Boxes.input [] ≡ c.as_str.result.now = word_at c.args.words.now c.in-Ok-Boxes.input c.index-words-input.result c.as_str.result.now (named c.args.words.now c.in-Ok-Boxes.input names) c.index-words-input.is c.as_str.ensures.value in
     let read : command_read words ≡ Ok (Boxes c.as_str.result.now) = boxes_read words c.in-Ok-Boxes.input c.as_str.result.now (rw c.in-Ok-Boxes.field-0-is at c.in-Ok-Boxes.ensures.read) name in
     one_command words (Boxes c.as_str.result.now) command c.say_boxes.result (g.D.Desk.outside c.args.desk.now) (g.D.Desk.outside c.say_boxes.new.desk) read c.say_boxes.ensures.ends is
+
+pub returns-in-Ok-List-clause-headline : goal.returns-in-Ok-List-clause-headline
+returns-in-Ok-List-clause-headline g c = λ command is.
+    let words = map string_bytes c.args.words.now in
+    let names = rw c.in-Ok-List.field-0-is at c.in-Ok-List.ensures.names in
+    let name : get_or words c.in-Ok-List.input [] ≡ c.as_str-in-Ok-List.result.now = word_at c.args.words.now c.in-Ok-List.input c.index-words-input-in-Ok-List.result c.as_str-in-Ok-List.result.now (named c.args.words.now c.in-Ok-List.input names) c.index-words-input-in-Ok-List.is c.as_str-in-Ok-List.ensures.value in
+    let read : command_read words ≡ Ok (ListFile c.as_str-in-Ok-List.result.now) = list_read words c.in-Ok-List.input c.as_str-in-Ok-List.result.now (rw c.in-Ok-List.field-0-is at c.in-Ok-List.ensures.read) name in
+    one_command words (ListFile c.as_str-in-Ok-List.result.now) command c.say_items.result (g.D.Desk.outside c.args.desk.now) (g.D.Desk.outside c.say_items.new.desk) read c.say_items.ensures.ends is
 
 pub returns-in-Ok-Edit-clause-headline : goal.returns-in-Ok-Edit-clause-headline
 returns-in-Ok-Edit-clause-headline g c = λ command is.

@@ -1,5 +1,0 @@
-use Rattle.hf_app.proofs.Denoting.{equal_files}
-use Rattle.hf_app.proofs.laws.equal_files_equal_stores.Goals as goal
-
-pub returns : goal.returns
-returns c = equal_files

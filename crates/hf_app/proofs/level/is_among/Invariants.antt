@@ -1,6 +1,0 @@
-use Rattle.std.proofs.Common.{◌≡◌, false, take}
-use Rattle.hf_app.specs.TopLevel.{is_among}
-use Rattle.hf_app.proofs.level.is_among.Given as goal
-
-abbrev pub invariant-loop-k : goal.invariant-loop-k
-invariant-loop-k l = is_among (take l.k-index l.kinds) l.kind ≡ false
