@@ -9,6 +9,7 @@ use Rattle.hf_desk.specs.Outside.{Outside, Files, file_of}
 use Rattle.hf_desk.specs.Calls.{IfTold, HasFile, Rose, Said, SaidFront}
 use Rattle.hf_desk.specs.Making.{IsMade, IsUnmade, IsMadeInPart}
 use Rattle.hf_desk.proofs.Frames.{told_for, told_map}
+use Rattle.hf_desk.proofs.Writing.{said_none}
 use Rattle.hf_desk.specs.declared.read.ReadStop.{ReadStop}
 use Rattle.hf_desk.specs.declared.read.ReadStop.TheVariants as reads
 use Rattle.hf_store.specs.Changes.{Edit}
@@ -104,6 +105,10 @@ module _ (old now : Outside) (name bytes : List ℕ) (told : HasBytes old name b
     steady_list files some file there = inr (said (listing_text s), due_said files some file there, refl, tt)
 
 -- ---- edit
+
+-- nothing was said
+pub unsaid : (old now : Outside) → now.said ≡ old.said → Said old [] now
+unsaid old now same = let none = said_none old in record { said = same ∙ none.said }
 
 module _ (old now : Outside) (name out bytes : List ℕ) (edits : List Edit) (told : HasBytes old name bytes) (few : length bytes ≤ FILE) where
   due_edits : (d : Due) → IsDueOfEdits bytes out edits d → ForFile old name (λ file. IsDueOf (EditFile name out edits) file d)

@@ -12,6 +12,8 @@ mod stopping;
 mod top;
 
 pub use editing::{Stop, edited};
+pub use hf_text::{
+    Command, EditWord, Outcome, WordsFault, line_of, read_words, say_list, say_rows, status,
+};
 pub use making::make_canonical;
-pub use hf_text::{Command, EditWord, Outcome, WordsFault, line_of, read_words, say_list, say_rows, status};
 pub use top::run;

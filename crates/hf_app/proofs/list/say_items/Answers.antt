@@ -22,15 +22,15 @@ returns-in-Err-Unfit-clause-steady g c = λ steady files some file there.
 
 pub returns-in-Ok-say_list-clause-due : goal.returns-in-Ok-say_list-clause-due
 returns-in-Ok-say_list-clause-due g c =
-    done_list (g.D.Desk.outside c.args.desk.now) _ c.args.name.now c.in-Ok.file.items c.in-Ok.ensures.whole c.in-Ok.ensures.within c.in-Ok-open_store.store c.in-Ok-open_store.ensures.found c.in-Ok-open_store.ensures.exact (search rules) (search rules)
+    done_list (g.D.Desk.outside c.args.desk.now) _ c.args.name.now c.in-Ok.file.items c.in-Ok.ensures.whole c.in-Ok.ensures.within c.in-Ok-open_store.store (rw c.deref.ensures.value at c.in-Ok-open_store.ensures.found) (rw c.deref.ensures.value at c.in-Ok-open_store.ensures.exact) (search rules) (search rules)
 
 pub returns-in-Ok-say_list-clause-steady : goal.returns-in-Ok-say_list-clause-steady
 returns-in-Ok-say_list-clause-steady g c = λ steady.
-    steady_list (g.D.Desk.outside c.args.desk.now) (g.D.Desk.outside c.args.desk.now) c.args.name.now c.in-Ok.file.items c.in-Ok.ensures.whole c.in-Ok.ensures.within c.in-Ok-open_store.store c.in-Ok-open_store.ensures.found c.in-Ok-open_store.ensures.exact
+    steady_list (g.D.Desk.outside c.args.desk.now) (g.D.Desk.outside c.args.desk.now) c.args.name.now c.in-Ok.file.items c.in-Ok.ensures.whole c.in-Ok.ensures.within c.in-Ok-open_store.store (rw c.deref.ensures.value at c.in-Ok-open_store.ensures.found) (rw c.deref.ensures.value at c.in-Ok-open_store.ensures.exact)
 
 pub returns-clause-due : goal.returns-clause-due
 returns-clause-due g c =
-    broken_list (g.D.Desk.outside c.args.desk.now) _ c.args.name.now c.in-Ok.file.items c.in-Ok.ensures.whole c.in-Ok.ensures.within c.in-Ok-open_store.store c.in-Ok-open_store.ensures.found c.in-Ok-open_store.ensures.exact (search rules) (search rules)
+    broken_list (g.D.Desk.outside c.args.desk.now) _ c.args.name.now c.in-Ok.file.items c.in-Ok.ensures.whole c.in-Ok.ensures.within c.in-Ok-open_store.store (rw c.deref.ensures.value at c.in-Ok-open_store.ensures.found) (rw c.deref.ensures.value at c.in-Ok-open_store.ensures.exact) (search rules) (search rules)
 
 pub returns-in-Err-clause-ends : goal.returns-in-Err-clause-ends
 returns-in-Err-clause-ends g c = rw c.stopped.ensures (ends_stopped (ListFile c.args.name.now) (g.D.Desk.outside c.args.desk.now) _ c.in-Err.why (λ e. c.in-Err.ensures.too_long (search rules)))
@@ -41,8 +41,8 @@ returns-in-Err-Unfit-clause-ends g c =
 
 pub returns-in-Ok-say_list-clause-ends : goal.returns-in-Ok-say_list-clause-ends
 returns-in-Ok-say_list-clause-ends g c =
-    ends_as (ListFile c.args.name.now) (g.D.Desk.outside c.args.desk.now) _ c.in-Ok.file.items c.in-Ok.ensures.whole Done (done_list (g.D.Desk.outside c.args.desk.now) _ c.args.name.now c.in-Ok.file.items c.in-Ok.ensures.whole c.in-Ok.ensures.within c.in-Ok-open_store.store c.in-Ok-open_store.ensures.found c.in-Ok-open_store.ensures.exact (search rules) (search rules))
+    ends_as (ListFile c.args.name.now) (g.D.Desk.outside c.args.desk.now) _ c.in-Ok.file.items c.in-Ok.ensures.whole Done (done_list (g.D.Desk.outside c.args.desk.now) _ c.args.name.now c.in-Ok.file.items c.in-Ok.ensures.whole c.in-Ok.ensures.within c.in-Ok-open_store.store (rw c.deref.ensures.value at c.in-Ok-open_store.ensures.found) (rw c.deref.ensures.value at c.in-Ok-open_store.ensures.exact) (search rules) (search rules))
 
 pub returns-clause-ends : goal.returns-clause-ends
 returns-clause-ends g c =
-    ends_as (ListFile c.args.name.now) (g.D.Desk.outside c.args.desk.now) _ c.in-Ok.file.items c.in-Ok.ensures.whole WriteFault (broken_list (g.D.Desk.outside c.args.desk.now) _ c.args.name.now c.in-Ok.file.items c.in-Ok.ensures.whole c.in-Ok.ensures.within c.in-Ok-open_store.store c.in-Ok-open_store.ensures.found c.in-Ok-open_store.ensures.exact (search rules) (search rules))
+    ends_as (ListFile c.args.name.now) (g.D.Desk.outside c.args.desk.now) _ c.in-Ok.file.items c.in-Ok.ensures.whole WriteFault (broken_list (g.D.Desk.outside c.args.desk.now) _ c.args.name.now c.in-Ok.file.items c.in-Ok.ensures.whole c.in-Ok.ensures.within c.in-Ok-open_store.store (rw c.deref.ensures.value at c.in-Ok-open_store.ensures.found) (rw c.deref.ensures.value at c.in-Ok-open_store.ensures.exact) (search rules) (search rules))
