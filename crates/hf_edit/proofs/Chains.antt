@@ -26,7 +26,8 @@ why_none s e none = rw (is_nowhere s (named e) none) refl
 
 -- ---- the removal of an item, by its three reasons
 
-removal : (absent primary : Bool) (needer : Option ℕ) → (when absent NoItem or_else when primary IsPrimary or_else option_map (λ by. Needed by) needer or_else None) ≡ None
+removal : (absent primary : Bool) (needer : Option ℕ)
+    → (when absent NoItem or_else when primary IsPrimary or_else option_map (λ by. Needed by) needer or_else None) ≡ None
     → (absent ≡ false) × (primary ≡ false) × (needer ≡ None)
 removal true primary needer e = absurd cc
 removal false true needer e = absurd cc
@@ -62,13 +63,16 @@ module _ (s : ItemStore) (id k : ℕ) (here : slice_get (ids_of s.items) k ≡ S
 
     pub why_primary : why s (Primary id) ≡ (when (is_metadata i) NotImage or_else when i.hidden IsHidden or_else when (is_minor i) IsMinor or_else None)
     why_primary =
-        let told : Bool → Bool → Bool → Option Reason = λ metadata hidden minor. when metadata NotImage or_else when hidden IsHidden or_else when minor IsMinor or_else None in
+        let told : Bool → Bool → Bool → Option Reason =
+        λ metadata hidden minor. when metadata NotImage or_else when hidden IsHidden or_else when minor IsMinor or_else None
+        in
         rw there
         (ap (λ b. told b (item_is is_hidden id s) (item_is is_minor id s)) (it_is is_metadata)
         ∙ ap (λ b. told (is_metadata i) b (item_is is_minor id s)) (it_is is_hidden)
         ∙ ap (λ b. told (is_metadata i) i.hidden b) (it_is is_minor))
 
-    pub why_dropping : (kind : FourCc) → why s (Drop id kind) ≡ (when (not (has_kind kind i)) NoProperty or_else when (has_essential kind i) IsEssential or_else None)
+    pub why_dropping : (kind : FourCc)
+        → why s (Drop id kind) ≡ (when (not (has_kind kind i)) NoProperty or_else when (has_essential kind i) IsEssential or_else None)
     why_dropping kind =
         let told : Bool → Bool → Option Reason = λ none essential. when none NoProperty or_else when essential IsEssential or_else None in
         rw there

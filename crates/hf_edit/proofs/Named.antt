@@ -40,7 +40,8 @@ above low k id [] rises here = absurd cc
 above low zero id (i ∷ is) rises here = let same : i.id ≡ id = some_is here in omega (arith, rises.0, same)
 above low (suc k) id (i ∷ is) rises here = omega (arith, rises.0, above i.id k id is rises.1 here)
 
-none_later : (test : Item → Bool) (id low : ℕ) (is : List Item) → id ≤ low → RisesFrom ◌<◌ low (ids_of is) → list_any (λ (i : Item). (i.id == id) && test i) is ≡ false
+none_later : (test : Item → Bool) (id low : ℕ) (is : List Item) → id ≤ low → RisesFrom ◌<◌ low (ids_of is)
+    → list_any (λ (i : Item). (i.id == id) && test i) is ≡ false
 none_later test id low [] le rises = refl
 none_later test id low (i ∷ is) le rises =
     let other : (i.id == id) ≡ false = differ i.id id (λ e. omega (arith, le, rises.0, e)) in
@@ -70,7 +71,8 @@ none_changed change id low (i ∷ is) le rises =
     let other : (i.id == id) ≡ false = differ i.id id (λ e. omega (arith, le, rises.0, e)) in
     rw other (ap (λ (js : List Item). i ∷ js) (none_changed change id i.id is (omega (arith, le, rises.0)) rises.1))
 
-one_changed : (change : Item → Item) (id low k : ℕ) (is : List Item) → RisesFrom ◌<◌ low (ids_of is) → slice_get (ids_of is) k ≡ Some id → map (changed id change) is ≡ changed_at change k is
+one_changed : (change : Item → Item) (id low k : ℕ) (is : List Item) → RisesFrom ◌<◌ low (ids_of is) → slice_get (ids_of is) k ≡ Some id
+    → map (changed id change) is ≡ changed_at change k is
 one_changed change id low k [] rises here = absurd cc
 one_changed change id low zero (i ∷ is) rises here =
     let same : i.id ≡ id = some_is here in
@@ -84,4 +86,6 @@ one_changed change id low (suc k) (i ∷ is) rises here =
 -- the item with the id is the one at the place
 pub with_item_at : (change : Item → Item) (s : ItemStore) (id k : ℕ) → RisesFrom ◌<◌ 0 (ids_of s.items) → slice_get (ids_of s.items) k ≡ Some id
     → record s { items = changed_at change k s.items } ≡ with_item id change s
-with_item_at change s id k rises here = let made : List Item → ItemStore = λ is. record s { items = is } in ap made (sym (one_changed change id 0 k s.items rises here))
+with_item_at change s id k rises here =
+    let made : List Item → ItemStore = λ is. record s { items = is } in
+    ap made (sym (one_changed change id 0 k s.items rises here))

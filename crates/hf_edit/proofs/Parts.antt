@@ -40,7 +40,8 @@ all_filtered P test (x ∷ xs) all =
       | inr gone ↦ rw gone (all_filtered P test xs all.1)
     ]
 
-all_passed : {A B : Type 0} (Q : A → Type 0) (P : B → Type 0) (f : A → B) (xs : List A) → AllByRecursion Q xs → ((x : A) → Q x → P (f x)) → AllByRecursion P (map f xs)
+all_passed : {A B : Type 0} (Q : A → Type 0) (P : B → Type 0) (f : A → B) (xs : List A) → AllByRecursion Q xs
+    → ((x : A) → Q x → P (f x)) → AllByRecursion P (map f xs)
 all_passed Q P f [] all each = tt
 all_passed Q P f (x ∷ xs) all each = (each x all.0, all_passed Q P f xs all.1 each)
 
@@ -60,7 +61,8 @@ module _ (is js : List Item) (ids : ids_of is ≡ ids_of js) where
     to = subst (λ xs. AllByRecursion (λ id. IsIn id xs) r.to) ids good.to;
   }
 
-  good_part : (i : Item) (hidden : Bool) (held : List Held) → IsGoodItem is i → length held ≤ limits.PROPS → AllByRecursion (λ (h : Held). IsFour h.prop.kind) held
+  good_part : (i : Item) (hidden : Bool) (held : List Held) → IsGoodItem is i → length held ≤ limits.PROPS
+      → AllByRecursion (λ (h : Held). IsFour h.prop.kind) held
       → IsGoodItem js (record i { hidden = hidden; props = held })
   good_part i hidden held good few kinds = record {
     id = good.id;
@@ -107,7 +109,8 @@ transitive some more all a b = record { kinds = omega (arith, a.kinds, b.kinds);
 nested : (before ps some all : List Prop) → IsLess ((before ++ ps) ++ some) ((before ++ ps) ++ all) → IsLess (before ++ (ps ++ some)) (before ++ (ps ++ all))
 nested before ps some all less = simp append_assoc at less
 
-props_less : (test : Held → Bool) (before : List Prop) (hs : List Held) (after : List Prop) → IsLess (before ++ (props_in (filter test hs) ++ after)) (before ++ (props_in hs ++ after))
+props_less : (test : Held → Bool) (before : List Prop) (hs : List Held) (after : List Prop)
+    → IsLess (before ++ (props_in (filter test hs) ++ after)) (before ++ (props_in hs ++ after))
 props_less test before [] after = itself (before ++ after)
 props_less test before (h ∷ hs) after =
     elim (cases_Bool (test h)) [
@@ -128,7 +131,8 @@ any-mono m n le =
 
 module _ (f : Item → Item) (part : (i : Item) → IsPart i (f i)) where
   -- what says nothing of marks and properties stays
-  keeps : {B : Type 0} (g : Item → B) → ((i : Item) (hidden : Bool) (held : List Held) → g (record i { hidden = hidden; props = held }) ≡ g i) → (i : Item) → g (f i) ≡ g i
+  keeps : {B : Type 0} (g : Item → B) → ((i : Item) (hidden : Bool) (held : List Held) → g (record i { hidden = hidden; props = held }) ≡ g i)
+      → (i : Item) → g (f i) ≡ g i
   keeps g same i = ap g (part i).same ∙ same i (f i).hidden (f i).props
 
   map-parts : {B : Type 0} (g : Item → B) (is : List Item) → ((i : Item) → g (f i) ≡ g i) → map g (map f is) ≡ map g is
@@ -147,7 +151,8 @@ module _ (f : Item → Item) (part : (i : Item) → IsPart i (f i)) where
   sum-parts g [] less = omega arith
   sum-parts g (i ∷ is) less = omega (arith, sum_by-cons g (f i) (map f is), sum_by-cons g i is, less i, sum-parts g is less)
 
-  sum-kept : (g : Item → ℕ) (is : List Item) → ((i : Item) (hidden : Bool) (held : List Held) → g (record i { hidden = hidden; props = held }) ≡ g i) → sum_by g (map f is) ≤ sum_by g is
+  sum-kept : (g : Item → ℕ) (is : List Item) → ((i : Item) (hidden : Bool) (held : List Held) → g (record i { hidden = hidden; props = held }) ≡ g i)
+      → sum_by g (map f is) ≤ sum_by g is
   sum-kept g is same = sum-parts g is (λ i. omega (arith, keeps g same i))
 
   ids-parts : (is : List Item) → ids_of (map f is) ≡ ids_of is
@@ -192,7 +197,9 @@ module _ (f : Item → Item) (part : (i : Item) → IsPart i (f i)) where
       let now = flat_map props_of (map f is) in
       let old = flat_map props_of is in
       let test = (part i).stays.0 in
-      let rest : IsLess (before ++ (props_of (f i) ++ now)) (before ++ (props_of (f i) ++ old)) = nested before (props_of (f i)) now old (behind (before ++ props_of (f i)) is) in
+      let rest : IsLess (before ++ (props_of (f i) ++ now)) (before ++ (props_of (f i) ++ old)) =
+      nested before (props_of (f i)) now old (behind (before ++ props_of (f i)) is)
+      in
       let here : IsLess (before ++ (props_of (f i) ++ old)) (before ++ (props_of i ++ old)) =
       subst (λ (hs : List Held). IsLess (before ++ (props_in hs ++ old)) (before ++ (props_of i ++ old))) (sym (part i).stays.1) (props_less test before i.props old)
       in
@@ -224,8 +231,8 @@ module _ (f : Item → Item) (part : (i : Item) → IsPart i (f i)) where
     counted : counted_meta (record s { items = map f s.items }) ≤ counted_meta s
     counted =
         let t : ItemStore = record s { items = map f s.items } in
-        meta-mono (is_wide t.items) (is_wide s.items) (length (table_of t)) (length (table_of s)) (counts_of t) (counts_of s) (short_props (table_of t)) (short_props (table_of s))
-        (omega (arith, ap id_width (wide-parts s.items))) kinds (counts-parts s) bytes
+        meta-mono (is_wide t.items) (is_wide s.items) (length (table_of t)) (length (table_of s)) (counts_of t) (counts_of s)
+        (short_props (table_of t)) (short_props (table_of s)) (omega (arith, ap id_width (wide-parts s.items))) kinds (counts-parts s) bytes
 
     meta_less : meta_len (record s { items = map f s.items }) ≤ meta_len s
     meta_less =

@@ -1,15 +1,15 @@
 -- What an edit leaves of the items.
-use Rattle.std.proofs.Common.{◌≡◌, ℕ, Bool, true, false, not, cond, List, [], ◌∷◌, ◌++◌, map, filter, refl, sym, ap, ◌∙◌, subst, inl, inr, eqb-true}
+use Rattle.std.proofs.Common.{◌≡◌, ℕ, Bool, true, false, not, cond, List, [], ◌∷◌, map, filter, refl, sym, ap, ◌∙◌, subst, inl, inr, eqb-true}
 use Rattle.std.specs.Prelude.{◌==◌}
 use Rattle.std.proofs.lemmas.Bool.{cases_Bool}
-use Rattle.std.proofs.lemmas.List.Elements.{filter-append}
 use Rattle.hf_base.specs.declared.four.FourCc.{FourCc}
 use Rattle.hf_store.specs.Changes.{cut, cut_item, cut_refs, hide, is_other, lacking}
 use Rattle.hf_store.specs.Lists.{IsIn, not_empty}
 use Rattle.hf_store.specs.Store.{Item, ids_of}
 use Rattle.hf_store.specs.declared.item.RefList.{RefList}
+use Rattle.hf_store.specs.Untouched.{ids_without, refs_without}
 use Rattle.hf_edit.specs.Edits.{Edit, Remove, Primary, Hide, Show, Drop}
-use Rattle.hf_edit.specs.Left.{links_of, AreLeft, IsLeft, UntouchedItemsStay, NoItemComes, RestStays}
+use Rattle.hf_edit.specs.Left.{AreLeft, IsLeft, UntouchedItemsStay, NoItemComes, RestStays}
 use Rattle.hf_edit.proofs.Named.{differ}
 
 -- ---- members
@@ -41,30 +41,13 @@ filter_in test x (y ∷ ys) h =
 
 -- ---- references
 
-abbrev links : FourCc → List ℕ → List (FourCc × ℕ)
-links kind ids = map (λ to. (kind, to)) ids
-
-links-filter : (stays : ℕ → Bool) (kind : FourCc) (ids : List ℕ) → links kind (filter stays ids) ≡ filter (λ link. stays link.1) (links kind ids)
-links-filter stays kind [] = refl
-links-filter stays kind (x ∷ xs) =
-    elim (cases_Bool (stays x)) [
-      | inl here ↦ rw here (ap (λ ls. (kind, x) ∷ ls) (links-filter stays kind xs))
-      | inr gone ↦ rw gone (links-filter stays kind xs)
+refs-cut : (id : ℕ) (rs : List RefList) → cut_refs (is_other id) rs ≡ refs_without id rs
+refs-cut id [] = refl
+refs-cut id (r ∷ rs) =
+    elim (cases_Bool (not_empty (ids_without id r.to))) [
+      | inl some ↦ rw some (ap (λ qs. record r { to = ids_without id r.to } ∷ qs) (refs-cut id rs))
+      | inr none ↦ rw none (refs-cut id rs)
     ]
-
--- a list without ids has no references
-links-if_any : (kind : FourCc) (ids : List ℕ) (rs : List RefList) → links_of (cond (not_empty ids) (record { kind = kind; to = ids } ∷ rs) rs) ≡ links kind ids ++ links_of rs
-links-if_any kind [] rs = refl
-links-if_any kind (x ∷ xs) rs = refl
-
-links-cut : (stays : ℕ → Bool) (rs : List RefList) → links_of (cut_refs stays rs) ≡ filter (λ link. stays link.1) (links_of rs)
-links-cut stays [] = refl
-links-cut stays (r ∷ rs) =
-    let test : FourCc × ℕ → Bool = λ link. stays link.1 in
-    links-if_any r.kind (filter stays r.to) (cut_refs stays rs)
-    ∙ ap (λ ls. links r.kind (filter stays r.to) ++ ls) (links-cut stays rs)
-    ∙ ap (λ ls. ls ++ filter test (links_of rs)) (links-filter stays r.kind r.to)
-    ∙ sym (filter-append test (links r.kind r.to) (links_of rs))
 
 -- ---- what is left of an item
 
@@ -93,7 +76,7 @@ cut_left id i = record {
   bytes = refl;
   mark = λ no. refl;
   props = λ no. refl;
-  refs = links-cut (is_other id) i.refs;
+  refs = refs-cut id i.refs;
 }
 
 hide_left : (id : ℕ) (i : Item) → i.id ≡ id → IsLeft (Hide id) i (hide true i)

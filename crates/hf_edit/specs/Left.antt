@@ -1,17 +1,12 @@
 -- What edits leave as it was.
-use Rattle.std.specs.Prelude.{ℕ, ◌≡◌, ◌==◌, not, List, map, filter, None}
-use Rattle.std.specs.List.{flat_map}
-use Rattle.hf_base.specs.declared.four.FourCc.{FourCc}
+use Rattle.std.specs.Prelude.{ℕ, ◌≡◌, List, None}
 use Rattle.hf_store.specs.Lists.{IsIn}
 use Rattle.hf_store.specs.Changes.{cut_groups, is_other}
 use Rattle.hf_store.specs.Store.{Item, Group, ItemStore, ids_of}
 use Rattle.hf_store.specs.declared.item.RefList.{RefList}
+use Rattle.hf_store.specs.Untouched.{ids_without, refs_without}
 use Rattle.hf_store.specs.Valid.{Valid}
 use Rattle.hf_edit.specs.Edits.{Edit, Remove, Primary, Hide, Show, Drop, step, why}
-
--- the references of an item one by one: their types, and the ids that they lead to
-abbrev pub links_of : List RefList → List (FourCc × ℕ)
-links_of rs = flat_map (λ (r : RefList). map (λ to. (r.kind, to)) r.to) rs
 
 -- the item with the id goes
 abbrev pub Takes : Edit → ℕ → Type 0
@@ -31,7 +26,7 @@ Strips _ x = ⊥
 
 -- the references that are left of these: those to an item that goes are gone, and the others are the same
 abbrev pub AreLeft : Edit → List RefList → List RefList → Type 0
-AreLeft (Remove id) before after = links_of after ≡ filter (λ link. not (link.1 == id)) (links_of before)
+AreLeft (Remove id) before after = after ≡ refs_without id before
 AreLeft _ before after = after ≡ before
 
 -- an item, and what an edit leaves of it
@@ -49,7 +44,7 @@ pub record IsLeft (e : Edit) (before after : Item) : Type 0 where
 
 -- the ids of the items that are left, in their order
 abbrev pub AreIdsLeft : Edit → List ℕ → List ℕ → Type 0
-AreIdsLeft (Remove id) before after = after ≡ filter (λ x. not (x == id)) before
+AreIdsLeft (Remove id) before after = after ≡ ids_without id before
 AreIdsLeft _ before after = after ≡ before
 
 -- the groups that are left: only a removed item goes from them

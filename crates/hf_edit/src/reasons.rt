@@ -8,22 +8,18 @@ ghost use Rattle.hf_store.specs.Changes.{needed_by as needed_by_stated};
 ghost use Rattle.hf_store.specs.Seen.{item_of};
 ghost use Rattle.hf_store.specs.Store.{ids_of};
 ghost use Rattle.hf_store.specs.Valid.{Valid};
-ghost use Rattle.hf_edit.specs.Edits.{◌or_else◌, has_essential as has_essential_stated, has_kind as has_kind_stated, is_metadata as is_metadata_stated, is_minor as is_minor_stated, named, when, why};
+ghost use Rattle.hf_edit.specs.Edits.{◌or_else◌, named, when, why};
+ghost use Rattle.hf_edit.specs.Edits.{has_essential as has_essential_stated, has_kind as has_kind_stated, is_metadata as is_metadata_stated, is_minor as is_minor_stated};
 ghost use Rattle.hf_edit.specs.Seen.{edit_of};
 
 use crate::edit::Edit;
 use hf_base::FourCc;
+use hf_base::kinds::{MIME, URI};
 use hf_deps::needed_by;
 use hf_store::{Item, Reason, Store};
 
-/// Metadata of ISO/IEC 23008-12, annex A.
+/// The type of metadata of a camera: ISO/IEC 23008-12, annex A.
 const EXIF: FourCc = FourCc(*b"Exif");
-
-/// Metadata with a content type.
-const MIME: FourCc = FourCc(*b"mime");
-
-/// Metadata with a URI as its type.
-const URI: FourCc = FourCc(*b"uri ");
 
 /// The references of a thumbnail to its picture.
 const THMB: FourCc = FourCc(*b"thmb");
@@ -78,7 +74,8 @@ fn has_essential(item: &Item<'_>, kind: FourCc) -> bool
 
 /// The first reason why an item does not go.
 fn against_removal(store: &Store<'_>, id: u32) -> Option<Reason>
-    ensures { result ≡ (when (store.now.primary == id) Reason.IsPrimary or_else option_map (λ by. Reason.Needed by) (needed_by_stated id store.now.items) or_else None) }
+    ensures { let needer = needed_by_stated id store.now.items in
+        result ≡ (when (store.now.primary == id) Reason.IsPrimary or_else option_map (λ by. Reason.Needed by) needer or_else None) }
 {
     if id == store.primary() {
         return Some(Reason::IsPrimary);

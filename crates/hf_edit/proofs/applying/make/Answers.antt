@@ -13,7 +13,9 @@ remove-requires-clause-valid c =
     valid_left s c.in-Remove.id c.args.i c.requires.valid here (free_in s c.args.edit.now _ c.in-Remove.is c.requires.free)
 
 pub set_primary-requires : goal.set_primary-requires
-set_primary-requires c = steps_keep_validity c.args.store.now (Primary c.in-Primary.id) c.requires.valid (free_in c.args.store.now c.args.edit.now _ c.in-Primary.is c.requires.free)
+set_primary-requires c =
+    let s = c.args.store.now in
+    steps_keep_validity s (Primary c.in-Primary.id) c.requires.valid (free_in s c.args.edit.now _ c.in-Primary.is c.requires.free)
 
 pub set_hidden-requires-clause-place : goal.set_hidden-requires-clause-place
 set_hidden-requires-clause-place c = place c.args.store.now (named (edit_of c.args.edit.now)) c.args.i c.requires.valid c.requires.place

@@ -34,5 +34,6 @@ pub returns-in-Drop : goal.returns-in-Drop
 returns-in-Drop c =
     let s = c.args.store.now in
     let here = place_in s c.args.edit.now _ c.in-Drop.is (ids_of s.items) c.args.i c.requires.place in
+    let i = item_of c.at-in-Drop.result.now in
     reason_in s c.args.edit.now _ c.in-Drop.is c.against_dropping.result
-    (why_dropping s c.in-Drop.id c.args.i here (item_of c.at-in-Drop.result.now) c.requires.valid.ids_rise c.at-in-Drop.ensures c.in-Drop.kind ∙ sym c.against_dropping.ensures)
+    (why_dropping s c.in-Drop.id c.args.i here i c.requires.valid.ids_rise c.at-in-Drop.ensures c.in-Drop.kind ∙ sym c.against_dropping.ensures)

@@ -7,4 +7,14 @@ use Rattle.hf_edit.proofs.worked.items_are_removed.Goals as goal
 
 pub returns : goal.returns
 unfolding cut identity_item one_picture photograph primary_of_none second_gone second_in_all two_pictures
-returns c = record { no_item = refl; no_item_as_primary = refl; primary = refl; primary_that_is_needed = refl; tile = refl; metadata = refl; picture = refl; links = refl }
+returns c =
+    record {
+      no_item = refl;
+      no_item_as_primary = refl;
+      primary = refl;
+      primary_that_is_needed = refl;
+      tile = refl;
+      metadata = refl;
+      picture = refl;
+      links = refl;
+    }

@@ -1,0 +1,81 @@
+//! Files of many bytes: items that share them, over a desk that counts what is made.
+
+use crate::making::{put_box, words_of};
+use crate::parts::{HDLR, ONE, PITM};
+use hf_app::run;
+use hf_desk::CountingDesk;
+use hf_text::Outcome;
+use std::alloc::Global;
+use std::test::Fail;
+
+/// The bytes that the items share.
+const RANGE: u32 = 67_108_864;
+
+/// The bytes that the items share, in the `mdat` of a file at 24.
+fn shared(alloc: Global) -> Result<Vec<u8>, Fail> {
+    let mut data = Vec::new(alloc);
+    data.resize(67_108_864, 0)?;
+    let mut file = Vec::from_slice(alloc, &ONE[..24])?;
+    put_box(&mut file, b"mdat", &[&data])?;
+    Ok(file)
+}
+
+/// Puts a `meta` behind it: so many items over all of these bytes, but the last over the first `last` of
+/// them.
+fn put_items(file: &mut Vec<u8>, alloc: Global, count: u16, last: u32) -> Result<(), Fail> {
+    let mut infos = Vec::from_slice(alloc, b"\0\0\0\0")?;
+    infos.extend_from_slice(&count.to_be_bytes())?;
+    let mut places = Vec::from_slice(alloc, b"\x01\0\0\0\x44\0")?;
+    places.extend_from_slice(&count.to_be_bytes())?;
+    for id in 1..count.saturating_add(1) {
+        let size = if id == count { last } else { RANGE };
+        put_box(
+            &mut infos,
+            b"infe",
+            &[b"\x02\0\0\0", &id.to_be_bytes(), b"\0\0hvc1\0"],
+        )?;
+        places.extend_from_slice(&id.to_be_bytes())?;
+        places.extend_from_slice(b"\0\0\0\0\0\x01\0\0\0\x20")?;
+        places.extend_from_slice(&size.to_be_bytes())?;
+    }
+    let mut boxes = Vec::from_slice(alloc, b"\0\0\0\0")?;
+    boxes.extend_from_slice(HDLR)?;
+    boxes.extend_from_slice(PITM)?;
+    put_box(&mut boxes, b"iinf", &[&infos])?;
+    put_box(&mut boxes, b"iloc", &[&places])?;
+    put_box(file, b"meta", &[&boxes])
+}
+
+#[test]
+fn offsets_take_eight_bytes_from_2_32_on(rt: HostRuntime) -> Result<(), Fail> {
+    let cases: [(u16, u32, u64); 5] = [
+        (16, RANGE, 1_073_742_569),
+        (63, RANGE, 4_227_860_916),
+        (64, 67_106_342, 4_294_967_295),
+        (64, 67_106_343, 4_294_967_808),
+        (70, RANGE, 4_697_623_791),
+    ];
+    let words = words_of(rt.alloc(), &["edit", "a", "b"])?;
+    let mut file = shared(rt.alloc())?;
+    for (count, last, length) in &cases {
+        file.truncate(67_108_896);
+        put_items(&mut file, rt.alloc(), *count, *last)?;
+        let mut desk = CountingDesk::new();
+        desk.add("a", &file);
+        assert_eq!(rt; run(rt.alloc(), &words, &mut desk), Outcome::Done);
+        assert_eq!(rt; desk.made_len(), *length);
+    }
+    Ok(())
+}
+
+#[test]
+fn the_boxes_of_a_large_file_are_said(rt: HostRuntime) -> Result<(), Fail> {
+    let mut file = shared(rt.alloc())?;
+    put_items(&mut file, rt.alloc(), 3000, RANGE)?;
+    let mut desk = CountingDesk::new();
+    desk.add("a", &file);
+    let words = words_of(rt.alloc(), &["boxes", "a"])?;
+    assert_eq!(rt; run(rt.alloc(), &words, &mut desk), Outcome::Done);
+    assert_eq!(rt; desk.said_len(), 130);
+    Ok(())
+}
