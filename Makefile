@@ -18,4 +18,5 @@ install: all
 
 bench: all
 	bench/boxes
+	bench/list
 	bench/edit

@@ -6,7 +6,7 @@ use Rattle.hf_base.specs.declared.limits.TheConstants.{FILE}
 use Rattle.hf_box.specs.declared.view.BoxRow.{BoxRow}
 use Rattle.hf_box.specs.Walk.{walk_at}
 use Rattle.hf_desk.specs.Outside.{Outside, Files, file_of}
-use Rattle.hf_desk.specs.Calls.{IfTold, HasFile, Rose, Said, SaidFront}
+use Rattle.hf_desk.specs.Calls.{IfTold, HasFile, ReadsOnly, Rose, Said, SaidFront}
 use Rattle.hf_desk.specs.Making.{IsMade, IsUnmade, IsMadeInPart}
 use Rattle.hf_desk.proofs.Frames.{told_for, told_map}
 use Rattle.hf_desk.proofs.Writing.{said_none}
@@ -105,6 +105,19 @@ module _ (old now : Outside) (name bytes : List ℕ) (told : HasBytes old name b
     steady_list files some file there = inr (said (listing_text s), due_said files some file there, refl, tt)
 
 -- ---- edit
+
+-- what was made after a read was made
+module _ {old mid now : Outside} {out : List ℕ} (only : ReadsOnly old mid) where
+  pub made_along : {bytes : List ℕ} → IsMade mid out bytes now → IsMade old out bytes now
+  made_along is = record {
+    creating = is.creating;
+    made = rw only.made at is.made;
+    mark = rw only.mark at (rw only.made at is.mark);
+  }
+
+  pub made_along_in_part : {bytes : List ℕ} → IsUnmade mid now ⊎ IsMadeInPart mid out bytes now → IsUnmade old now ⊎ IsMadeInPart old out bytes now
+  made_along_in_part (inl is) = inl (record { creating = is.creating ∙ only.creating; made = is.made ∙ only.made; mark = is.mark ∙ only.mark })
+  made_along_in_part (inr is) = inr (record { front = is.front; rest = is.rest; whole = is.whole; made = made_along is.made })
 
 -- nothing was said
 pub unsaid : (old now : Outside) → now.said ≡ old.said → Said old [] now

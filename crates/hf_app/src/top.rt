@@ -24,9 +24,10 @@ pub fn run<D: Desk>(alloc: Global, words: &[String], desk: &mut D) -> Outcome
     // Over every desk, Usage comes exactly where no command reads.
     ensures usage { (at : ℕ) → (result ≡ Outcome.Usage at) ↔ (command_read (map string_bytes words.now) ≡ Err at) }
     // Whatever the command: with every answer but ReadFault and NoMemory its input is there, where
-    // the files are told, and the answer is due of it. For `edit` that answers Done: the input
-    // denotes a store, and the file made is the one canonical file of that store after all edits
-    // in order, and denotes it.
+    // the files are told, and the answer is due of it. For `list` that answers Done: the input
+    // denotes a store, and what was said is the listing of that store. For `edit` that answers Done:
+    // the input denotes a store, and the file made is the one canonical file of that store after
+    // all edits in order, and denotes it.
     ensures headline { (command : Words) → command_read (map string_bytes words.now) ≡ Ok command
         → Ends command result (D.outside desk.old) (D.outside desk.new) }
     // Where something is due, it is the answer; Done made and said all of it, WriteFault a front.

@@ -5,14 +5,14 @@ use Rattle.hf_desk.specs.Outside.{Outside, IsSound}
 use Rattle.hf_desk.specs.ReadCounts.{ReadCounts}
 use Rattle.hf_write.specs.declared.matching.MatchDesk.{MatchDesk}
 
--- It has no files and made one, tells what is left of the file that is compared, and is steady.
+-- It has no files, tells what is left of the file that is compared, and is steady.
 abbrev pub match_outside : MatchDesk → Outside
 match_outside d = record {
   files = Some [];
   made = None;
   said = None;
   mark = Match (option_copied d.rest);
-  creating = true;
+  creating = d.creating;
   read_faults = d.read_faults;
   write_faults = 0;
   steady = true;

@@ -9,12 +9,12 @@ use hf_desk::{Desk, Failed};
 use hf_plan::Plan;
 use hf_store::Store;
 
-/// A desk that made a file, and keeps of what is put only whether it is the front of a file that is
-/// lent. It takes no memory, and fails for reads alone. This is this project's own rule.
+/// A desk that keeps of what is put only whether it is the front of a file that is lent. It takes no memory, and fails for reads alone. This is this project's own rule.
 #[derive(Drop)]
 struct MatchDesk<'a> {
     /// What is left of the file; nothing once other bytes were put.
     rest: Option<&'a [u8]>,
+    creating: bool,
     read_faults: u64,
 }
 
@@ -23,7 +23,7 @@ impl<'a> MatchDesk<'a> {
     ghost use Rattle.hf_desk.specs.Mark.{Match};
     ghost use Rattle.hf_write.specs.Matching.{match_outside};
 
-    /// A desk where nothing was put yet.
+    /// A desk that made a file, where nothing was put yet.
     fn new(file: &'a [u8]) -> MatchDesk<'a>
         ensures { match_outside result ≡ record {
           files = Some [];
@@ -38,6 +38,7 @@ impl<'a> MatchDesk<'a> {
     {
         MatchDesk {
             rest: Some(file),
+            creating: true,
             read_faults: 0,
         }
     }
@@ -68,9 +69,10 @@ impl<'a> Desk for MatchDesk<'a> {
         Err(Failed)
     }
 
-    /// Is not called, since a file was made.
+    /// Never fails, since no file is there.
     fn create(&mut self, _name: &str) -> Result<(), Failed> {
-        Err(Failed)
+        self.creating = true;
+        Ok(())
     }
 
     /// Takes the whole piece, and never fails.

@@ -2,7 +2,7 @@ use Rattle.std.specs.Prelude.{map}
 use Rattle.std.proofs.Common.{rules}
 use Rattle.std.proofs.lemmas.Result.{err_from_is_err_and}
 use Rattle.hf_text.specs.Commands.{edit_of}
-use Rattle.hf_app.proofs.SomethingDue.{left_valid, edits_make, steps_stop}
+use Rattle.hf_app.proofs.SomethingDue.{edits_make, steps_stop}
 use Rattle.hf_app.proofs.editing.edited.Goals as goal
 
 pub returns-in_err-apply_all : goal.returns-in_err-apply_all
