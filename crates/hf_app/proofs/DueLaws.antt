@@ -7,7 +7,7 @@ use Rattle.hf_desk.specs.Calls.{IfTold, Said}
 use Rattle.hf_desk.specs.Making.{IsMade, IsUnmade}
 use Rattle.hf_desk.proofs.Frames.{told_map}
 use Rattle.hf_store.specs.Store.{ItemStore}
-use Rattle.hf_store.specs.Changes.{Edit}
+use Rattle.hf_edit.specs.Edits.{Edit}
 use Rattle.hf_store.specs.declared.reason.Reason.{Reason}
 use Rattle.hf_store.specs.declared.reason.Reason.TheVariants.{NoItem}
 use Rattle.hf_plan.specs.Canon.{Canon}

@@ -12,7 +12,7 @@ use Rattle.hf_desk.proofs.Frames.{told_for, told_map}
 use Rattle.hf_desk.proofs.Writing.{said_none}
 use Rattle.hf_desk.specs.declared.read.ReadStop.{ReadStop}
 use Rattle.hf_desk.specs.declared.read.ReadStop.TheVariants as reads
-use Rattle.hf_store.specs.Changes.{Edit}
+use Rattle.hf_edit.specs.Edits.{Edit}
 use Rattle.hf_store.specs.Store.{ItemStore}
 use Rattle.hf_read.specs.Denotes.{DenotesWithin}
 use Rattle.hf_read.specs.Reading.{reading}

@@ -8,9 +8,9 @@ use Rattle.hf_base.specs.declared.limits.TheConstants.{FILE}
 use Rattle.hf_box.specs.Walk.{walk_at}
 use Rattle.hf_store.specs.Store.{ItemStore}
 use Rattle.hf_store.specs.Valid.{Valid}
-use Rattle.hf_store.specs.Changes.{Edit, step, why}
+use Rattle.hf_edit.specs.Edits.{Edit, step, why}
 use Rattle.hf_store.specs.declared.reason.Reason.{Reason}
-use Rattle.hf_store.proofs.CutValid.{steps_keep_validity}
+use Rattle.hf_edit.proofs.Steps.{steps_keep_validity}
 use Rattle.hf_plan.specs.Canon.{Canon}
 use Rattle.hf_plan.proofs.OneFile.{has_canon}
 use Rattle.hf_canon.proofs.Denoting.{canon_denotes}

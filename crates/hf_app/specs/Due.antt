@@ -5,7 +5,7 @@ use Rattle.hf_base.specs.declared.limits.TheConstants.{FILE}
 use Rattle.hf_box.specs.declared.view.BoxRow.{BoxRow}
 use Rattle.hf_box.specs.Walk.{walk_at}
 use Rattle.hf_desk.specs.Outside.{Files, file_of}
-use Rattle.hf_store.specs.Changes.{Edit}
+use Rattle.hf_edit.specs.Edits.{Edit}
 use Rattle.hf_store.specs.declared.reason.Reason.{Reason}
 use Rattle.hf_text.specs.declared.outcome.Outcome.{Outcome}
 use Rattle.hf_text.specs.declared.outcome.Outcome.TheVariants.{Done, Usage, Unfit, Refused, TooLong}

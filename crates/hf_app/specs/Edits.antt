@@ -1,7 +1,7 @@
 -- Edits in order, and what they make of a file.
 use Rattle.std.specs.Prelude.{◌≡◌, ◌+◌, ℕ, List, [], ◌∷◌, Option, Some, None, Result, Ok, Err}
 use Rattle.hf_store.specs.Store.{ItemStore}
-use Rattle.hf_store.specs.Changes.{Edit, step, why}
+use Rattle.hf_edit.specs.Edits.{Edit, step, why}
 use Rattle.hf_store.specs.declared.reason.Reason.{Reason}
 use Rattle.hf_store.specs.Valid.{Valid}
 use Rattle.hf_plan.specs.Canon.{Canon}
@@ -60,6 +60,11 @@ Opens file (Ok store) = DenotesWithin file store × (fault_of file ≡ None)
 Opens file (Err (Unfit fault)) = fault_of file ≡ Some fault
 Opens file (Err (Refused n reason)) = ⊥
 Opens file (Err NoMemory) = Unit {0}
+
+-- the edit with this number stops those behind it where there is a reason against it
+abbrev pub IsStop : ℕ → Option Reason → Stop → Type 0
+IsStop n reason (Refused m why) = (m ≡ n) × (reason ≡ Some why)
+IsStop n reason stop = ⊥
 
 -- edits were made in order, or the first one that is refused stopped them
 abbrev pub Steps : ItemStore → List Edit → Result (Unit {0}) Stop → ItemStore → Type 0

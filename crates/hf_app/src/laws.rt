@@ -5,7 +5,7 @@ ghost use Rattle.hf_base.specs.Number.{IsBytes};
 ghost use Rattle.hf_desk.specs.Outside.{Outside};
 ghost use Rattle.hf_desk.specs.Calls.{IfTold, Said};
 ghost use Rattle.hf_desk.specs.Making.{IsMade, IsUnmade};
-ghost use Rattle.hf_store.specs.Changes.{Edit};
+ghost use Rattle.hf_edit.specs.Edits.{Edit};
 ghost use Rattle.hf_app.specs.Answers.{Ends};
 ghost use Rattle.hf_app.specs.Due.{Due, IsDueOf};
 ghost use Rattle.hf_app.specs.Edits.{IsEdited};

@@ -1,153 +1,21 @@
--- The words of edits.
-use Rattle.std.proofs.Common.{◌≡◌, ◌≤◌, ◌<◌, ◌+◌, ◌-◌, ◌^◌, ℕ, zero, suc, Bool, true, false, List, [], ◌∷◌, ◌++◌, length, drop, refl, sym, ap, subst, ◌∙◌, arith, inl, inr, length-append}
-use Rattle.std.specs.Prelude.{Option, Some, None, Result, Ok, Err, codes, decimal, if◌then◌else◌, option_map}
+-- The words of edits, one behind the other.
+use Rattle.std.proofs.Common.{◌≡◌, ◌≤◌, ◌<◌, ◌+◌, ◌-◌, ℕ, zero, suc, List, [], ◌∷◌, ◌++◌, length, drop, refl, sym, ap, subst, ◌∙◌, arith, inl, inr, length-append}
+use Rattle.std.specs.Prelude.{Result, Ok, Err}
 use Rattle.std.specs.List.{flat_map, AllByRecursion}
-use Rattle.std.specs.Option.{ok_or}
-use Rattle.std.specs.Str.Parse.{digits_value, ParsesUnsigned}
-use Rattle.std.proofs.lemmas.Bool.{ltb-true, lt-ltb, and_parts, and_from, cases_lt}
-use Rattle.std.proofs.lemmas.Fmt.{decimal_is_IsNumeral, parse-decimal}
-use Rattle.std.proofs.lemmas.Result.{OkIff-at_ok}
-use Rattle.std.proofs.lemmas.Slice.Eq.{bytes_eq-Decides}
-use Rattle.std.proofs.lemmas.List.{drop_at}
-use Rattle.hf_text.specs.Words.{IsEdit, words_of_edit, is_id, id_of, is_remove, remove_read, edit_read, edit_then, edits_from, edits_read}
-use Rattle.hf_store.specs.Changes.{Edit, Remove}
+use Rattle.std.proofs.lemmas.Bool.{cases_lt}
+use Rattle.std.proofs.lemmas.List.{append-nil, drop_at}
+use Rattle.hf_edit.specs.Edits.{Edit}
+use Rattle.hf_text.specs.Words.{IsEdit, words_of_edit, edit_read, edit_then, edits_from, edits_read}
+use Rattle.hf_text.proofs.Forms.{EditBegins, EditReads, edit_read-words, edit_reads, edit_stops}
 use Rattle.hf_text.proofs.Fronts.{Fronts, Fronts-none, Fronts-left, Fronts-wider, Fronts-past, Fronts-flip, Fronts-more, Fronts-less, StopsAt}
 
--- ids
+-- an edit has words, since none is read of no words
+read_some : (words : List (List ℕ)) (edit : Edit) → edit_read 0 words ≡ Ok edit → 0 < length words
+read_some [] edit e = absurd (cc)
+read_some (word ∷ words) edit e = omega arith
 
-chosen_id : (word : List ℕ) (id : ℕ) (b : Bool) → is_id word ≡ b → (if b then Some (digits_value 10 word) else None) ≡ Some id → (id < 256 ^ 4) × (word ≡ decimal id)
-chosen_id word id false is e = absurd (cc)
-chosen_id word id true is e =
-    let same : digits_value 10 word ≡ id = cc in
-    let parts = and_parts _ _ is in
-    subst (λ (n : ℕ). (n < 256 ^ 4) × (word ≡ decimal n)) same (ltb-true _ _ parts.0, (bytes_eq-Decides word (decimal (digits_value 10 word))).0 parts.1)
-
-pub id_of-word : (word : List ℕ) (id : ℕ) → id_of word ≡ Some id → (id < 256 ^ 4) × (word ≡ decimal id)
-unfolding id_of
-id_of-word word id e = chosen_id word id (is_id word) refl e
-
-is_id-decimal : (id : ℕ) → id < 256 ^ 4 → digits_value 10 (decimal id) ≡ id → is_id (decimal id) ≡ true
-is_id-decimal id small value = and_from _ _ (lt-ltb _ _ (omega (arith, value))) ((bytes_eq-Decides (decimal id) (decimal (digits_value 10 (decimal id)))).1 (ap decimal (sym value)))
-
-pub id_of-decimal : (id : ℕ) → id < 256 ^ 4 → id_of (decimal id) ≡ Some id
-unfolding id_of
-id_of-decimal id small =
-    let value : digits_value 10 (decimal id) ≡ id = (decimal_is_IsNumeral id (omega arith)).1 in
-    let is : is_id (decimal id) ≡ true = is_id-decimal id small value in
-    ap (λ (b : Bool). if b then Some (digits_value 10 (decimal id)) else None) is ∙ ap Some value
-
--- what `parse` reads, and is written so, is the id
-pub parsed_id : {E : Type 0} (word : List ℕ) (result : Result ℕ E) (id : ℕ) → ParsesUnsigned 32 10 word result → result ≡ Ok id → word ≡ decimal id → Some id ≡ id_of word
-parsed_id word result id parses is written =
-    let value = OkIff-at_ok result _ _ id parses is in
-    sym (ap id_of written ∙ id_of-decimal id (omega (arith, value.0.1, value.1)))
-
-no_id_of : {E : Type 0} (word : List ℕ) (result : Result ℕ E) (o : Option ℕ) → ParsesUnsigned 32 10 word result → ((id : ℕ) → result ≡ Ok id → word ≡ decimal id → ⊥) → id_of word ≡ o → None ≡ o
-no_id_of word result None parses none is = refl
-no_id_of word result (Some id) parses none is =
-    let means = id_of-word word id is in
-    absurd (none id (parse-decimal 32 id word result (omega (arith, means.0)) (omega (arith, means.0)) means.1 parses) means.1)
-
--- anything else is none
-pub unparsed_id : {E : Type 0} (word : List ℕ) (result : Result ℕ E) → ParsesUnsigned 32 10 word result → ((id : ℕ) → result ≡ Ok id → word ≡ decimal id → ⊥) → None ≡ id_of word
-unparsed_id word result parses none = no_id_of word result (id_of word) parses none refl
-
--- one edit
-
-pub record EditBegins (words : List (List ℕ)) (k : ℕ) : Type 0 where
-  pub edit : Edit
-  pub fits : IsEdit edit
-  pub fronts : Fronts k words (words_of_edit edit)
-
-pub edit_read-words : (at : ℕ) (edit : Edit) (rest : List (List ℕ)) → IsEdit edit → edit_read at (words_of_edit edit ++ rest) ≡ Ok edit
-edit_read-words at (Remove id) rest fits = ap (λ (o : Option ℕ). ok_or (option_map Remove o) (at + 1)) (id_of-decimal id fits)
-
-pub edit_words_some : (edit : Edit) → 0 < length (words_of_edit edit)
-edit_words_some (Remove id) = omega arith
-
-pub record EditReads (words : List (List ℕ)) (edit : Edit) : Type 0 where
-  pub fits : IsEdit edit
-  pub whole : words ≡ words_of_edit edit ++ drop (length (words_of_edit edit)) words
-
-removed : (at : ℕ) (word id : List ℕ) (words : List (List ℕ)) (edit : Edit) (o : Option ℕ) → is_remove word ≡ true → id_of id ≡ o → ok_or (option_map Remove o) at ≡ Ok edit → EditReads (word ∷ id ∷ words) edit
-removed at word id words edit None is which e = absurd (cc)
-removed at word id words (Remove n) (Some m) is which e =
-    let same : m ≡ n = cc in
-    let means = id_of-word id n (which ∙ ap Some same) in
-    record { fits = means.0; whole = ap (λ (w : List ℕ). w ∷ id ∷ words) ((bytes_eq-Decides word (codes "remove")).0 is) ∙ ap (λ (w : List ℕ). codes "remove" ∷ w ∷ words) means.1 }
-
-chosen_edit : (at : ℕ) (word : List ℕ) (words : List (List ℕ)) (edit : Edit) (b : Bool) → is_remove word ≡ b → (if b then remove_read (at + 1) words else Err at) ≡ Ok edit → EditReads (word ∷ words) edit
-chosen_edit at word words edit false is e = absurd (cc)
-chosen_edit at word [] edit true is e = absurd (cc)
-chosen_edit at word (id ∷ words) edit true is e = removed (at + 1) word id words edit (id_of id) is refl e
-
-pub edit_reads : (at : ℕ) (words : List (List ℕ)) (edit : Edit) → edit_read at words ≡ Ok edit → EditReads words edit
-edit_reads at [] edit e = absurd (cc)
-edit_reads at (word ∷ words) edit e = chosen_edit at word words edit (is_remove word) refl e
-
--- where no more than one word can stand, the words stop there
-none_past : (P : ℕ → Type 0) → ((j : ℕ) → P (suc j) → ⊥) → (j : ℕ) → P j → j ≤ 0
-none_past P none zero b = omega arith
-none_past P none (suc j) b = absurd (none j b)
-
-one_past : (P : ℕ → Type 0) → ((j : ℕ) → P (suc (suc j)) → ⊥) → (j : ℕ) → P j → j ≤ 1
-one_past P none zero b = omega arith
-one_past P none (suc zero) b = omega arith
-one_past P none (suc (suc j)) b = absurd (none j b)
-
-begins_remove : (word : List ℕ) (words : List (List ℕ)) (j : ℕ) (edit : Edit) → Fronts (suc j) (word ∷ words) (words_of_edit edit) → is_remove word ≡ true
-begins_remove word words j (Remove n) f =
-    let first = f.same in
-    (bytes_eq-Decides word (codes "remove")).1 cc
-
-begins_id : (word id : List ℕ) (words : List (List ℕ)) (j : ℕ) → id_of id ≡ None → (edit : Edit) → IsEdit edit → Fronts (suc (suc j)) (word ∷ id ∷ words) (words_of_edit edit) → ⊥
-begins_id word id words j none (Remove n) fits f =
-    let first = f.same in
-    let same : id ≡ decimal n = cc in
-    let some : id_of id ≡ Some n = ap id_of same ∙ id_of-decimal n fits in
-    absurd (cc)
-
-one_word : (word : List ℕ) (words : List (List ℕ)) → is_remove word ≡ true → EditBegins (word ∷ words) 1
-one_word word words is = record {
-  edit = Remove 0;
-  fits = omega arith;
-  fronts = record { same = ap (λ (w : List ℕ). w ∷ []) ((bytes_eq-Decides word (codes "remove")).0 is); within = omega arith; short = omega arith };
-}
-
-no_edit : (at p : ℕ) (words : List (List ℕ)) → at ≡ p → ((j : ℕ) → EditBegins words (suc j) → ⊥) → StopsAt (EditBegins words) at p
-no_edit at p words e none = record {
-  k = 0;
-  place = omega arith;
-  begins = record { edit = Remove 0; fits = omega arith; fronts = Fronts-none _ _ };
-  most = none_past (EditBegins words) none;
-}
-
-no_id : (at p : ℕ) (word : List ℕ) (words : List (List ℕ)) → is_remove word ≡ true → at + 1 ≡ p → ((j : ℕ) → EditBegins (word ∷ words) (suc (suc j)) → ⊥) → StopsAt (EditBegins (word ∷ words)) at p
-no_id at p word words is e none = record {
-  k = 1;
-  place = omega arith;
-  begins = one_word word words is;
-  most = one_past (EditBegins (word ∷ words)) none;
-}
-
--- no second word
-lone : (word : List ℕ) (j : ℕ) → EditBegins (word ∷ []) (suc (suc j)) → ⊥
-lone word j b = absurd (omega (arith, b.fronts.within))
-
-refused_id : (at p : ℕ) (word id : List ℕ) (words : List (List ℕ)) (o : Option ℕ) → is_remove word ≡ true → id_of id ≡ o → ok_or (option_map Remove o) (at + 1) ≡ Err p → StopsAt (EditBegins (word ∷ id ∷ words)) at p
-refused_id at p word id words None is which e = no_id at p word (id ∷ words) is (cc) (λ j b. begins_id word id words j which b.edit b.fits b.fronts)
-refused_id at p word id words (Some n) is which e = absurd (cc)
-
-refused_edit : (at p : ℕ) (word : List ℕ) (words : List (List ℕ)) (b : Bool) → is_remove word ≡ b → (if b then remove_read (at + 1) words else Err at) ≡ Err p → StopsAt (EditBegins (word ∷ words)) at p
-refused_edit at p word words false is e = no_edit at p (word ∷ words) (cc) (λ j b. let t = begins_remove word words j b.edit b.fronts in absurd (cc))
-refused_edit at p word [] true is e = no_id at p word [] is (cc) (λ j b. lone word j b)
-refused_edit at p word (id ∷ words) true is e = refused_id at p word id words (id_of id) is refl e
-
-pub edit_stops : (at p : ℕ) (words : List (List ℕ)) → edit_read at words ≡ Err p → StopsAt (EditBegins words) at p
-edit_stops at p [] e = no_edit at p [] (cc) (λ j b. absurd (omega (arith, b.fronts.within)))
-edit_stops at p (word ∷ words) e = refused_edit at p word words (is_remove word) refl e
-
--- edits, one behind the other
+edit_words_some : (edit : Edit) → IsEdit edit → 0 < length (words_of_edit edit)
+edit_words_some edit fits = read_some (words_of_edit edit) edit (ap (edit_read 0) (sym (append-nil (words_of_edit edit))) ∙ edit_read-words 0 edit [] fits)
 
 pub record EditsRead (limit : ℕ) (words : List (List ℕ)) (edits : List Edit) : Type 0 where
   pub fits : AllByRecursion IsEdit edits
@@ -181,7 +49,7 @@ edits_read-words zero at (edit ∷ edits) fits few = absurd (omega arith)
 edits_read-words (suc limit) at (edit ∷ edits) fits few =
     let own : List (List ℕ) = words_of_edit edit in
     let more : List (List ℕ) = flat_map words_of_edit edits in
-    edits_read-some limit at (own ++ more) (omega (arith, edit_words_some edit, length-append own more))
+    edits_read-some limit at (own ++ more) (omega (arith, edit_words_some edit fits.0, length-append own more))
     ∙ ap (λ (r : Result Edit ℕ). edits_from r (λ (n : ℕ). edits_read limit (at + n) (drop n (own ++ more)))) (edit_read-words at edit more fits.0)
     ∙ ap (λ (l : List (List ℕ)). edit_then edit (edits_read limit (at + length own) l)) (drop_at own more (length own) refl)
     ∙ ap (edit_then edit) (edits_read-words limit (at + length own) edits fits.1 (omega arith))

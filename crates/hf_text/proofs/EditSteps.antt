@@ -1,35 +1,25 @@
 -- Edits that are read one after the other.
-use Rattle.std.proofs.Common.{◌≡◌, ◌≤◌, ◌<◌, ◌≢◌, ◌+◌, ◌-◌, ℕ, suc, true, false, List, [], ◌∷◌, ◌++◌, length, take, drop, map, get_or, refl, sym, ap, ◌∙◌, arith, append_assoc, length-drop}
-use Rattle.std.specs.Prelude.{Result, Ok, Err, option_map}
+use Rattle.std.proofs.Common.{◌≡◌, ◌≤◌, ◌<◌, ◌≢◌, ◌+◌, ◌-◌, ℕ, suc, List, [], ◌∷◌, ◌++◌, length, drop, map, get_or, refl, sym, ap, ◌∙◌, arith, append_assoc, add-one, drop-cons, length-drop}
+use Rattle.std.specs.Prelude.{Result, Ok, Err}
 use Rattle.std.specs.Global.{Vec}
-use Rattle.std.specs.Option.{ok_or}
 use Rattle.std.proofs.lemmas.Result.{IfOk-at_ok}
-use Rattle.std.proofs.lemmas.List.{append-nil, drop-drop, drop-map, drop_all, take_rest}
+use Rattle.std.proofs.lemmas.List.{append-nil, drop-drop, drop_all, get_or-map, length-map}
 use Rattle.hf_base.specs.declared.limits.TheConstants.{EDITS}
 use Rattle.hf_base.specs.declared.fault.NoMemory.{NoMemory as NoRoom}
 use Rattle.hf_text.specs.declared.words.EditWord.{EditWord}
-use Rattle.hf_text.specs.Words.{words_of_edit, id_of, is_remove, edit_read, edit_then, edits_from, edits_read}
-use Rattle.hf_store.specs.Changes.{Edit, Remove}
+use Rattle.hf_text.specs.Words.{words_of_edit, edit_read, edit_then, edits_from, edits_read, kind_read}
+use Rattle.hf_edit.specs.Edits.{Edit}
 use Rattle.hf_text.specs.Commands.{edit_of, HasEdits, IsPushed}
 use Rattle.hf_text.proofs.EditLaws.{edits_read-none, edits_read-some, edits_read-full}
 
--- the first two of the words from a place on
-first_two : {X : Type 0} (f : X → List ℕ) (xs : List X) (word id : X) → 2 ≤ length xs → word ≡ get_or xs 0 word → id ≡ get_or xs 1 id → map f xs ≡ f word ∷ f id ∷ drop 2 (map f xs)
-first_two f [] word id two w i = absurd (omega arith)
-first_two f (a ∷ []) word id two w i = absurd (omega arith)
-first_two f (a ∷ b ∷ xs) word id two w i = rw (w, i) refl
+-- the word at a place stands before those behind it
+pub word_at : {X : Type 0} (f : X → List ℕ) (xs : List X) (at : ℕ) (word : X) → at < length xs → word ≡ get_or xs at word → drop at (map f xs) ≡ f word ∷ drop (at + 1) (map f xs)
+word_at f xs at word less is =
+    rw add-one (drop-cons (map f xs) at (f word) (omega (arith, less, length-map xs f)) ∙ ap (λ (w : List ℕ). w ∷ drop (suc at) (map f xs)) (get_or-map f xs at word (f word) less ∙ ap f (sym is)))
 
-pub two_at : {X : Type 0} (f : X → List ℕ) (xs : List X) (at : ℕ) (word id : X) → 2 ≤ length (take (length xs - at) (drop at xs)) → word ≡ get_or (take (length xs - at) (drop at xs)) 0 word → id ≡ get_or (take (length xs - at) (drop at xs)) 1 id → drop at (map f xs) ≡ f word ∷ f id ∷ drop 2 (drop at (map f xs))
-two_at f xs at word id two w i =
-    let rest = take_rest xs at in
-    rw drop-map (first_two f (drop at xs) word id (rw rest at two) (rw rest at w) (rw rest at i))
-
--- what is read of `remove` and a word
-pub read_two : (at : ℕ) (words : List (List ℕ)) (word id : List ℕ) (rest : List (List ℕ)) → words ≡ word ∷ id ∷ rest → is_remove word ≡ true → edit_read at words ≡ ok_or (option_map Remove (id_of id)) (at + 1)
-read_two at words word id rest e is = rw (e, is) refl
-
-pub read_other : (at : ℕ) (words : List (List ℕ)) (word : List ℕ) (rest : List (List ℕ)) → words ≡ word ∷ rest → is_remove word ≡ false → edit_read at words ≡ Err at
-read_other at words word rest e is = rw (e, is) refl
+-- a type stands behind the id
+pub kind_behind : (at : ℕ) (words : List (List ℕ)) → kind_read (at + 1 + 1) (drop 1 (drop (at + 1) words)) ≡ kind_read (at + 2) (drop (at + 2) words)
+kind_behind at words = rw (drop-drop 1 (at + 1) words) (let same : at + 1 + 1 ≡ at + 2 = omega arith in rw same refl)
 
 -- edits before others
 pub edits_before : List Edit → Result (List Edit) ℕ → Result (List Edit) ℕ

@@ -1,10 +1,8 @@
 -- Where the words name a command that takes one file, but are none.
-use Rattle.std.proofs.Common.{◌≡◌, ◌≤◌, ◌<◌, ◌∙◌, ℕ, Bool, true, false, List, [], ◌∷◌, length, drop, get_or, map, refl, sym, ap, arith, Result, Ok, Err}
+use Rattle.std.proofs.Common.{◌≡◌, ◌≤◌, ◌∙◌, ℕ, Bool, true, false, List, [], ◌∷◌, length, drop, get_or, map, sym, ap, arith, Result, Err}
 use Rattle.std.specs.Prelude.{if◌then◌else◌}
-use Rattle.std.proofs.lemmas.List.{get_or-map}
 use Rattle.hf_text.specs.Words.{Command, Boxes, ListFile, is_boxes, is_list, is_edit, file_read, edit_file_read, command_read}
 use Rattle.hf_text.specs.Commands.{IsRead, IsFileRead}
-use Rattle.hf_text.specs.declared.words.Command.{Command as CommandWords}
 use Rattle.hf_text.specs.declared.words.WordsFault.{WordsFault}
 use Rattle.hf_text.specs.declared.words.WordsFault.TheVariants.{Usage, NoMemory}
 

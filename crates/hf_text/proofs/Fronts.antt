@@ -1,5 +1,5 @@
 -- Words that begin as others do.
-use Rattle.std.proofs.Common.{◌≡◌, ◌≤◌, ◌+◌, ℕ, List, ◌++◌, length, take, drop, refl, sym, ap, ◌∙◌, arith, length-append}
+use Rattle.std.proofs.Common.{◌≡◌, ◌≤◌, ◌+◌, ℕ, suc, List, [], ◌∷◌, ◌++◌, length, take, drop, refl, sym, ap, ◌∙◌, arith, length-append}
 use Rattle.std.proofs.lemmas.List.{take_at, take-take, take-append-le, take-append-drop, append_cancel_left}
 use Rattle.std.proofs.Math.Seq.{take-append-add}
 
@@ -47,3 +47,23 @@ pub record StopsAt (P : ℕ → Type 0) (at p : ℕ) : Type 0 where
   pub place : p ≡ at + k
   pub begins : P k
   pub most : (j : ℕ) → P j → j ≤ k
+
+-- fewer words of the same
+pub Fronts-fewer : {j : ℕ} {words whole : List (List ℕ)} (k : ℕ) → k ≤ j → Fronts j words whole → Fronts k words whole
+Fronts-fewer {j = j} {words = words} {whole = whole} k few f = record {
+  same = sym (take-take k j words few) ∙ ap (take k) f.same ∙ take-take k j whole few;
+  within = omega (arith, f.within);
+  short = omega (arith, f.short);
+}
+
+-- the first word of both is the same, and so are those behind it
+pub Fronts-first : {j : ℕ} {word first : List ℕ} {words others : List (List ℕ)} → Fronts (suc j) (word ∷ words) (first ∷ others) → first ≡ word
+Fronts-first f = let front = f.same in cc
+
+pub Fronts-behind : {j : ℕ} {word first : List ℕ} {words others : List (List ℕ)} → Fronts (suc j) (word ∷ words) (first ∷ others) → Fronts j words others
+Fronts-behind f = record { same = let front = f.same in cc; within = omega (arith, f.within); short = omega (arith, f.short) }
+
+pub Fronts-second : (words others : List (List ℕ)) → Fronts 2 words others → Fronts 1 (drop 1 words) (drop 1 others)
+Fronts-second [] others f = absurd (omega (arith, f.within))
+Fronts-second (word ∷ words) [] f = absurd (omega (arith, f.short))
+Fronts-second (word ∷ words) (first ∷ others) f = Fronts-behind f

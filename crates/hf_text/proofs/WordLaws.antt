@@ -7,7 +7,7 @@ use Rattle.std.proofs.lemmas.Slice.Eq.{bytes_eq-Decides}
 use Rattle.std.proofs.lemmas.List.{take_at, take-append-drop}
 use Rattle.hf_base.specs.declared.limits.TheConstants.{EDITS}
 use Rattle.hf_text.specs.Words.{Command, Boxes, ListFile, EditFile, IsCommand, words_of_edit, words_of, Reads, Begins, IsUsageAt, is_boxes, is_list, is_edit, edits_read, edit_file, edit_file_read, file_read, command_read}
-use Rattle.hf_store.specs.Changes.{Edit}
+use Rattle.hf_edit.specs.Edits.{Edit}
 use Rattle.hf_text.proofs.Fronts.{Fronts, Fronts-none, Fronts-more, StopsAt}
 use Rattle.hf_text.proofs.EditLaws.{EditsBegin, edits_read-words, edits_reads, edits_stop}
 

@@ -3,16 +3,20 @@ use Rattle.std.specs.Prelude.{◌≡◌, ◌<◌, ℕ, List, [], ◌∷◌, ◌+
 use Rattle.std.specs.Global.{Vec}
 use Rattle.hf_base.specs.declared.fault.NoMemory.{NoMemory as NoRoom}
 use Rattle.hf_text.specs.Words.{Command, Boxes, ListFile, EditFile}
-use Rattle.hf_store.specs.Changes.{Edit, Remove}
+use Rattle.hf_edit.specs.Edits.{Edit, Remove, Primary, Hide, Show, Drop}
 use Rattle.hf_text.specs.declared.words.EditWord.{EditWord}
-use Rattle.hf_text.specs.declared.words.EditWord.TheVariants.{Remove as RemoveWord}
+use Rattle.hf_text.specs.declared.words.EditWord.TheVariants as words
 use Rattle.hf_text.specs.declared.words.Command.{Command as CommandWords}
 use Rattle.hf_text.specs.declared.words.Command.TheVariants.{Boxes as BoxesWords, List as ListWords, Edit as EditWords}
 use Rattle.hf_text.specs.declared.words.WordsFault.{WordsFault}
 use Rattle.hf_text.specs.declared.words.WordsFault.TheVariants.{Usage, NoMemory}
 
 abbrev pub edit_of : EditWord → Edit
-edit_of (RemoveWord id) = Remove id
+edit_of (words.Remove id) = Remove id
+edit_of (words.Primary id) = Primary id
+edit_of (words.Hide id) = Hide id
+edit_of (words.Show id) = Show id
+edit_of (words.Drop id kind) = Drop id kind
 
 -- the command with the words that stand at its places
 abbrev pub command_of : List (List ℕ) → CommandWords → Command

@@ -1,11 +1,12 @@
 -- The words of the commands, without the program's name: this project's own rule.
-use Rattle.std.specs.Prelude.{◌≡◌, ◌≤◌, ◌<◌, ◌+◌, ◌^◌, ℕ, zero, suc, Bool, ◌&&◌, List, [], ◌∷◌, ◌++◌, length, take, drop, Option, Some, None, Result, Ok, Err, if◌then◌else◌, nat_lt, option_map, codes, decimal}
+use Rattle.std.specs.Prelude.{◌≡◌, ◌≤◌, ◌<◌, ◌+◌, ◌^◌, ℕ, zero, suc, Bool, ◌==◌, ◌&&◌, List, [], ◌∷◌, ◌++◌, length, take, drop, Option, Some, None, Result, Ok, Err, if◌then◌else◌, nat_lt, codes, decimal}
 use Rattle.std.specs.List.{flat_map, AllByRecursion}
 use Rattle.std.specs.Option.{ok_or}
 use Rattle.std.specs.Str.{bytes_eq}
 use Rattle.std.specs.Str.Parse.{digits_value}
 use Rattle.hf_base.specs.declared.limits.TheConstants.{EDITS}
-use Rattle.hf_store.specs.Changes.{Edit, Remove}
+use Rattle.hf_base.specs.declared.four.FourCc.{FourCc}
+use Rattle.hf_edit.specs.Edits.{Edit, Remove, Primary, Hide, Show, Drop}
 
 pub data Command : Type 0 where
   -- says the boxes of the file with this name
@@ -16,8 +17,19 @@ pub data Command : Type 0 where
   EditFile : List ℕ → List ℕ → List Edit → Command
 
 -- an id is a number of four bytes
+abbrev pub IsId : ℕ → Type 0
+IsId id = id < 256 ^ 4
+
+-- a type has four bytes
+abbrev pub IsKind : FourCc → Type 0
+IsKind kind = length kind.0 ≡ 4
+
 abbrev pub IsEdit : Edit → Type 0
-IsEdit (Remove id) = id < 256 ^ 4
+IsEdit (Remove id) = IsId id
+IsEdit (Primary id) = IsId id
+IsEdit (Hide id) = IsId id
+IsEdit (Show id) = IsId id
+IsEdit (Drop id kind) = IsId id × IsKind kind
 
 -- at most EDITS edits
 abbrev pub IsCommand : Command → Type 0
@@ -25,9 +37,13 @@ IsCommand (Boxes input) = Unit {0}
 IsCommand (ListFile input) = Unit {0}
 IsCommand (EditFile input out edits) = AllByRecursion IsEdit edits × (length edits ≤ EDITS)
 
--- the words of an edit: an id is a decimal number without leading zeros
+-- the words of an edit: an id is a decimal number without leading zeros, and a type is its own word
 abbrev pub words_of_edit : Edit → List (List ℕ)
 words_of_edit (Remove id) = codes "remove" ∷ decimal id ∷ []
+words_of_edit (Primary id) = codes "primary" ∷ decimal id ∷ []
+words_of_edit (Hide id) = codes "hide" ∷ decimal id ∷ []
+words_of_edit (Show id) = codes "show" ∷ decimal id ∷ []
+words_of_edit (Drop id kind) = codes "drop" ∷ decimal id ∷ kind.0 ∷ []
 
 -- the words of a command
 abbrev pub words_of : Command → List (List ℕ)
@@ -59,9 +75,6 @@ is_list word = bytes_eq word (codes "list")
 abbrev pub is_edit : List ℕ → Bool
 is_edit word = bytes_eq word (codes "edit")
 
-abbrev pub is_remove : List ℕ → Bool
-is_remove word = bytes_eq word (codes "remove")
-
 -- the number of this word, if the word is what is written for it
 abbrev pub is_id : List ℕ → Bool
 is_id word = nat_lt (digits_value 10 word) (256 ^ 4) && bytes_eq word (decimal (digits_value 10 word))
@@ -69,15 +82,60 @@ is_id word = nat_lt (digits_value 10 word) (256 ^ 4) && bytes_eq word (decimal (
 unfoldable pub id_of : List ℕ → Option ℕ
 id_of word = if is_id word then Some (digits_value 10 word) else None
 
--- the words behind `remove`, from this place on
-abbrev pub remove_read : ℕ → List (List ℕ) → Result Edit ℕ
-remove_read at [] = Err at
-remove_read at (id ∷ words) = ok_or (option_map Remove (id_of id)) at
+-- the type that this word is
+unfoldable pub kind_of : List ℕ → Option FourCc
+kind_of word = if length word == 4 then Some (record { 0 = word }) else None
+
+-- the id that stands first, from this place on
+abbrev pub id_read : ℕ → List (List ℕ) → Result ℕ ℕ
+id_read at [] = Err at
+id_read at (word ∷ words) = ok_or (id_of word) at
+
+-- the type that stands first
+abbrev pub kind_read : ℕ → List (List ℕ) → Result FourCc ℕ
+kind_read at [] = Err at
+kind_read at (word ∷ words) = ok_or (kind_of word) at
+
+-- what is read of one word, and then behind it
+infixl 10 ◌and_then◌
+abbrev pub ◌and_then◌ : {A B : Type 0} → Result A ℕ → (A → Result B ℕ) → Result B ℕ
+(Ok x) and_then read = read x
+(Err at) and_then read = Err at
+
+-- the name of an edit, and how the words behind it are read
+pub record Form : Type 0 where
+  pub name : List ℕ
+  pub read : ℕ → List (List ℕ) → Result Edit ℕ
+
+-- an id stands behind the name
+abbrev pub with_id : List ℕ → (ℕ → Edit) → Form
+with_id name edit = record { name = name; read = λ at words. id_read at words and_then λ id. Ok (edit id) }
+
+-- an id and a type
+abbrev pub with_kind : List ℕ → (ℕ → FourCc → Edit) → Form
+with_kind name edit = record {
+  name = name;
+  read = λ at words. id_read at words and_then λ id. kind_read (at + 1) (drop 1 words) and_then λ kind. Ok (edit id kind);
+}
+
+abbrev pub forms : List Form
+forms =
+    with_id (codes "remove") Remove
+    ∷ with_id (codes "primary") Primary
+    ∷ with_id (codes "hide") Hide
+    ∷ with_id (codes "show") Show
+    ∷ with_kind (codes "drop") Drop
+    ∷ []
+
+-- the edit with this name at this place, and these words behind it
+abbrev pub form_read : List Form → ℕ → List ℕ → List (List ℕ) → Result Edit ℕ
+form_read [] at name words = Err at
+form_read (form ∷ others) at name words = if bytes_eq name form.name then form.read (at + 1) words else form_read others at name words
 
 -- the edit that stands first, from this place on
 abbrev pub edit_read : ℕ → List (List ℕ) → Result Edit ℕ
 edit_read at [] = Err at
-edit_read at (word ∷ words) = if is_remove word then remove_read (at + 1) words else Err at
+edit_read at (name ∷ words) = form_read forms at name words
 
 -- an edit before others
 abbrev pub edit_then : Edit → Result (List Edit) ℕ → Result (List Edit) ℕ

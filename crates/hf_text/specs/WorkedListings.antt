@@ -1,7 +1,6 @@
 -- Worked listings.
 use Rattle.std.specs.Prelude.{ℕ, true, List, [], ◌∷◌, ◌++◌, codes}
 use Rattle.hf_box.specs.Literals.{four, hex_of}
-use Rattle.hf_head.specs.Ftyp.{Brands}
 use Rattle.hf_store.specs.Store.{Item, ItemStore}
 use Rattle.hf_store.specs.WorkedStores.{heic, plain, essential, four_by_four, references}
 

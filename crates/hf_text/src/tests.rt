@@ -24,7 +24,7 @@ fn usage_of(read: Result<Command, WordsFault>) -> Option<usize> {
 
 #[test]
 fn words_that_are_no_command_have_a_place(rt: HostRuntime) -> Result<(), Fail> {
-    let cases: [(&[&str], usize); 14] = [
+    let cases: [(&[&str], usize); 18] = [
         (&[], 0),
         (&["show"], 0),
         (&["list"], 1),
@@ -39,6 +39,10 @@ fn words_that_are_no_command_have_a_place(rt: HostRuntime) -> Result<(), Fail> {
         (&["edit", "a", "b", "remove", "4294967296"], 4),
         (&["edit", "a", "b", "x", "1"], 3),
         (&["edit", "a", "b", "remove", "1", "remove", "x"], 6),
+        (&["edit", "a", "b", "primary", "x"], 4),
+        (&["edit", "a", "b", "drop", "1"], 5),
+        (&["edit", "a", "b", "drop", "1", "isp"], 5),
+        (&["edit", "a", "b", "show", "1", "drop", "1", "ispé"], 7),
     ];
     for (words, at) in &cases {
         let words = words_of(rt.alloc(), words)?;
@@ -51,7 +55,22 @@ fn words_that_are_no_command_have_a_place(rt: HostRuntime) -> Result<(), Fail> {
 fn edits_are_read_in_order(rt: HostRuntime) -> Result<(), Fail> {
     let words = words_of(
         rt.alloc(),
-        &["edit", "a", "b", "remove", "4294967295", "remove", "0"],
+        &[
+            "edit",
+            "a",
+            "b",
+            "remove",
+            "4294967295",
+            "show",
+            "0",
+            "drop",
+            "1",
+            "irot",
+            "hide",
+            "2",
+            "primary",
+            "3",
+        ],
     )?;
     let Ok(Command::Edit { input, out, edits }) = read_words(rt.alloc(), &words) else {
         return Err(Fail::from("the words are a command"));
@@ -59,7 +78,13 @@ fn edits_are_read_in_order(rt: HostRuntime) -> Result<(), Fail> {
     assert_eq!(rt; (input, out), (1, 2));
     let expected = [
         EditWord::Remove { id: u32::MAX },
-        EditWord::Remove { id: 0 },
+        EditWord::Show { id: 0 },
+        EditWord::Drop {
+            id: 1,
+            kind: FourCc(*b"irot"),
+        },
+        EditWord::Hide { id: 2 },
+        EditWord::Primary { id: 3 },
     ];
     assert_eq!(rt; edits.as_slice(), expected.as_slice());
     Ok(())

@@ -1,13 +1,13 @@
 //! The words of the command line, read from left to right.
 
-ghost use Rattle.std.specs.Prelude.{◌≡◌, ◌+◌, ◌<◌, ◌≤◌, ℕ, List, length, drop, map, string_bytes, IfOk};
+ghost use Rattle.std.specs.Prelude.{◌≡◌, ◌+◌, ◌<◌, ◌≤◌, ℕ, List, length, drop, map, string_bytes, IfOk, OnOk};
 ghost use Rattle.hf_base.specs.declared.limits.TheConstants.{EDITS as MOST};
-ghost use Rattle.hf_text.specs.Words.{Command as Words, command_read, edit_file_read, edit_read, edits_read, file_read, id_of as id_of_word, words_of_edit};
+ghost use Rattle.hf_text.specs.Words.{Command as Words, command_read, edit_file_read, edit_read, edits_read, file_read, form_read, forms, id_of as id_of_word, id_read, kind_of as kind_of_word, kind_read, words_of_edit};
 ghost use Rattle.hf_text.specs.declared.words.WordsFault.TheVariants.{NoMemory as no_memory};
 ghost use Rattle.hf_text.specs.Commands.{AreRead, IsEditRead, IsFileRead, IsPushed, IsRead, NamesWords, edit_of};
 
-use hf_base::NoMemory;
 use hf_base::limits::EDITS;
+use hf_base::{FourCc, NoMemory, four_at};
 use itoa::Buffer;
 use std::alloc::Global;
 
@@ -16,6 +16,14 @@ use std::alloc::Global;
 pub enum EditWord {
     /// Takes an item out.
     Remove { id: u32 },
+    /// Makes an item the primary.
+    Primary { id: u32 },
+    /// Hides an item.
+    Hide { id: u32 },
+    /// Shows an item.
+    Show { id: u32 },
+    /// Takes the properties of a type from an item.
+    Drop { id: u32, kind: FourCc },
 }
 
 /// A command. Each file is named by the place of its word, from 0.
@@ -61,7 +69,11 @@ impl EditWord {
         ensures { result ≡ length (words_of_edit (edit_of self.now)) }
     {
         match self {
-            EditWord::Remove { .. } => 2,
+            EditWord::Remove { .. }
+            | EditWord::Primary { .. }
+            | EditWord::Hide { .. }
+            | EditWord::Show { .. } => 2,
+            EditWord::Drop { .. } => 3,
         }
     }
 }
@@ -76,20 +88,77 @@ fn id_of(word: &str) -> Option<u32>
     }
 }
 
+/// The type that the word is.
+#[tactic(auto, using(crate::proofs::Operands::kind_of_four, crate::proofs::Operands::kind_of_other))]
+fn kind_of(word: &str) -> Option<FourCc>
+    ensures { result ≡ kind_of_word word.now }
+{
+    let bytes = word.as_bytes();
+    if bytes.len() != 4 {
+        return None;
+    }
+    Some(four_at(bytes, 0))
+}
+
+/// The id at this place, or the place where none is.
+fn read_id(words: &[String], at: usize) -> Result<u32, usize>
+    requires { at ≤ length words.now }
+    ensures read { result ≡ id_read at (drop at (map string_bytes words.now)) }
+    ensures within { OnOk result (at < length words.now) }
+{
+    match words.get(at) {
+        Some(word) => id_of(word.as_str()).ok_or(at),
+        None => Err(at),
+    }
+}
+
+/// The type at this place, or the place where none is.
+fn read_kind(words: &[String], at: usize) -> Result<FourCc, usize>
+    requires { at ≤ length words.now }
+    ensures read { result ≡ kind_read at (drop at (map string_bytes words.now)) }
+    ensures within { OnOk result (at < length words.now) }
+{
+    match words.get(at) {
+        Some(word) => kind_of(word.as_str()).ok_or(at),
+        None => Err(at),
+    }
+}
+
+/// The edit with this name, which stands at this place, or the place of the first word that no edit
+/// has there.
+fn read_named(name: &str, words: &[String], at: usize) -> Result<EditWord, usize>
+    requires { at < length words.now }
+    ensures read { IsEditRead (form_read forms at name.now (drop (at + 1) (map string_bytes words.now))) result }
+    ensures within { IfOk result (λ edit. at + length (words_of_edit (edit_of edit)) ≤ length words.now) }
+{
+    match name {
+        "remove" => Ok(EditWord::Remove {
+            id: read_id(words, at + 1)?,
+        }),
+        "primary" => Ok(EditWord::Primary {
+            id: read_id(words, at + 1)?,
+        }),
+        "hide" => Ok(EditWord::Hide {
+            id: read_id(words, at + 1)?,
+        }),
+        "show" => Ok(EditWord::Show {
+            id: read_id(words, at + 1)?,
+        }),
+        "drop" => Ok(EditWord::Drop {
+            id: read_id(words, at + 1)?,
+            kind: read_kind(words, at + 2)?,
+        }),
+        _ => Err(at),
+    }
+}
+
 /// The edit that begins at this place, or the place of the first word that no edit has there.
 fn read_edit(words: &[String], at: usize) -> Result<EditWord, usize>
     requires { at < length words.now }
     ensures read { IsEditRead (edit_read at (drop at (map string_bytes words.now))) result }
     ensures within { IfOk result (λ edit. at + length (words_of_edit (edit_of edit)) ≤ length words.now) }
 {
-    match &words[at..] {
-        [word, id, ..] if word.as_str() == "remove" => match id_of(id.as_str()) {
-            Some(id) => Ok(EditWord::Remove { id }),
-            None => Err(at + 1),
-        },
-        [word] if word.as_str() == "remove" => Err(at + 1),
-        _ => Err(at),
-    }
+    read_named(words[at].as_str(), words, at)
 }
 
 /// One more edit, unless memory was refused before.

@@ -3,7 +3,7 @@ use Rattle.std.specs.Prelude.{String, string_bytes}
 use Rattle.std.specs.Global.{Global}
 use Rattle.std.proofs.lemmas.List.{get_or-map, length-map}
 use Rattle.hf_desk.specs.Outside.{Outside}
-use Rattle.hf_store.specs.Changes.{Edit}
+use Rattle.hf_edit.specs.Edits.{Edit}
 use Rattle.hf_text.specs.Commands.{edit_of}
 use Rattle.hf_text.specs.Words.{Command, Boxes, ListFile, EditFile, command_read}
 use Rattle.hf_text.specs.declared.outcome.Outcome.{Outcome}

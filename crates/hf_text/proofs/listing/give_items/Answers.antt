@@ -1,6 +1,6 @@
-use Rattle.std.proofs.Common.{refl, arith}
+use Rattle.std.proofs.Common.{refl}
 use Rattle.hf_text.specs.Listing.{item_text}
-use Rattle.hf_text.proofs.Left.{leaves_all, leaves_less, leaves_stop, leaves_none, texts_from, no_texts}
+use Rattle.hf_text.proofs.Left.{leaves_all, leaves_less, leaves_stop, texts_from}
 use Rattle.hf_text.proofs.listing.give_items.Goals as goal
 
 pub loop-i-init : goal.loop-i-init

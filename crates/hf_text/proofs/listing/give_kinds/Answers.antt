@@ -1,5 +1,4 @@
-use Rattle.std.proofs.Common.{ap, sym, ◌∙◌, refl, arith, ◌++◌, length, take, drop}
-use Rattle.std.specs.Prelude.{codes}
+use Rattle.std.proofs.Common.{ap, sym, ◌∙◌, refl, arith, ◌++◌, drop}
 use Rattle.hf_text.specs.Lines.{type_field}
 use Rattle.hf_text.specs.Listing.{brand_fields}
 use Rattle.hf_text.proofs.Left.{leaves_less, leaves_stop, leaves_none, leaves_as, cut_rest}

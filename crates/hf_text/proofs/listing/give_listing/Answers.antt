@@ -1,4 +1,4 @@
-use Rattle.std.proofs.Common.{refl, ap, ◌++◌, ◌∙◌}
+use Rattle.std.proofs.Common.{refl, ap, ◌∙◌}
 use Rattle.hf_desk.proofs.Paging.{gives_as, gives_then, gives_stops, gives_more}
 use Rattle.hf_text.specs.Listing.{brands_text, primary_text, listing_text}
 use Rattle.hf_text.proofs.listing.give_listing.Goals as goal

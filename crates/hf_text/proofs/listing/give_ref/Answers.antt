@@ -1,4 +1,4 @@
-use Rattle.std.proofs.Common.{refl, ap, ◌++◌, ◌∙◌}
+use Rattle.std.proofs.Common.{refl, ap, ◌++◌}
 use Rattle.std.specs.Prelude.{codes}
 use Rattle.hf_desk.proofs.Paging.{gives_as, gives_then, gives_stops, gives_more}
 use Rattle.hf_text.specs.Listing.{id_fields, ref_text}

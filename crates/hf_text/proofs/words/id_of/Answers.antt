@@ -1,6 +1,6 @@
 use Rattle.std.proofs.Common.{◌≡◌, sym, ◌∙◌, ap, decimal}
 use Rattle.std.proofs.lemmas.Slice.Eq.{bytes_eq-Decides}
-use Rattle.hf_text.proofs.EditLaws.{parsed_id, unparsed_id}
+use Rattle.hf_text.proofs.Operands.{parsed_id, unparsed_id}
 use Rattle.hf_text.proofs.words.id_of.Goals as goal
 
 pub returns-in-Ok : goal.returns-in-Ok
