@@ -188,26 +188,17 @@ fn a_photograph_is_edited(rt: HostRuntime) -> Result<(), Fail> {
 }
 
 #[test]
-fn a_photograph_keeps_what_it_needs(rt: HostRuntime) -> Result<(), Fail> {
-    let cases: [(&str, u16, Outcome); 3] = [
+fn edits_of_a_photograph_are_refused(rt: HostRuntime) -> Result<(), Fail> {
+    let refused = |why| Outcome::Refused { edit: 1, why };
+    let cases: [(&[&str], u16, Outcome); 7] = [
+        (&["remove", "7"], TILES, refused(Reason::Needed { by: 49 })),
+        (&["remove", "49"], TILES, refused(Reason::IsPrimary)),
+        (&["primary", "51"], TILES, refused(Reason::NotImage)),
+        (&["primary", "1"], TILES, refused(Reason::IsHidden)),
+        (&["primary", "50"], TILES, refused(Reason::IsMinor)),
+        (&["drop", "1", "hvcC"], TILES, refused(Reason::IsEssential)),
         (
-            "7",
-            TILES,
-            Outcome::Refused {
-                edit: 1,
-                why: Reason::Needed { by: 49 },
-            },
-        ),
-        (
-            "49",
-            TILES,
-            Outcome::Refused {
-                edit: 1,
-                why: Reason::IsPrimary,
-            },
-        ),
-        (
-            "52",
+            &["remove", "52"],
             47,
             Outcome::Unfit {
                 source: 0,
@@ -215,10 +206,13 @@ fn a_photograph_keeps_what_it_needs(rt: HostRuntime) -> Result<(), Fail> {
             },
         ),
     ];
-    for (id, tiles, outcome) in &cases {
+    for (edit, tiles, outcome) in &cases {
         let mut desk = MemoryDesk::new(rt.alloc());
         desk.add("p", &photograph(rt.alloc(), *tiles)?)?;
-        let words = words_of(rt.alloc(), &["edit", "p", "b", "remove", id])?;
+        let mut words = words_of(rt.alloc(), &["edit", "p", "b"])?;
+        for word in *edit {
+            words.push(String::from_str(rt.alloc(), word)?)?;
+        }
         assert_eq!(rt; run(rt.alloc(), &words, &mut desk), *outcome);
         assert!(rt; desk.made().is_none());
     }

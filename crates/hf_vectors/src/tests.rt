@@ -38,7 +38,27 @@ fn made_of(alloc: Global, file: &[u8], edits: &[&str], made: &[u8]) -> Result<bo
 fn the_one_canonical_file_is_made(rt: HostRuntime) -> Result<(), Fail> {
     let none: &[&str] = &[];
     let second: &[&str] = &["remove", "2"];
-    let cases: [Edited; 15] = [
+    let cases: [Edited; 19] = [
+        (
+            &[HDLR, PITM, ONE_INFO, ONE_PLACE],
+            &["show", "1", "primary", "1"],
+            ONE,
+        ),
+        (
+            &[HDLR, PITM, ONE_INFO, SIZE_OF_ONE, ONE_PLACE],
+            &["drop", "1", "ispe"],
+            ONE,
+        ),
+        (
+            &[HDLR, PITM, TWO_INFOS, TWO_PLACES],
+            &["hide", "2", "show", "2"],
+            TWO,
+        ),
+        (
+            &[HDLR, PITM, TWO_INFOS, TWO_PLACES],
+            &["primary", "2", "primary", "1", "remove", "2"],
+            ONE,
+        ),
         (&[HDLR, PITM, ONE_INFO, NO_PROPERTIES, ONE_PLACE], none, ONE),
         (&[HDLR, PITM, ONE_INFO, ONE_PLACE], none, ONE),
         (
@@ -182,7 +202,7 @@ fn words_end_in_their_outcomes(rt: HostRuntime) -> Result<(), Fail> {
     let bad_size = ReadRefusal::BadSize { at: 182 };
     let unfit = |why| Outcome::Unfit { source: 0, why };
     let refused = |edit, why| Outcome::Refused { edit, why };
-    let cases: [Ended; 20] = [
+    let cases: [Ended; 26] = [
         (&[], Outcome::Usage { at: 0 }),
         (&["box", "one"], Outcome::Usage { at: 0 }),
         (&["boxes"], Outcome::Usage { at: 1 }),
@@ -209,6 +229,27 @@ fn words_end_in_their_outcomes(rt: HostRuntime) -> Result<(), Fail> {
         (
             &["edit", "one", "b", "remove", "9"],
             refused(1, Reason::NoItem),
+        ),
+        (
+            &["edit", "one", "b", "hide", "1"],
+            refused(1, Reason::IsPrimary),
+        ),
+        (
+            &["edit", "two", "b", "hide", "2", "primary", "2"],
+            refused(2, Reason::IsHidden),
+        ),
+        (
+            &["edit", "one", "b", "drop", "1", "ispe"],
+            refused(1, Reason::NoProperty),
+        ),
+        (&["edit", "one", "b", "drop", "1"], Outcome::Usage { at: 5 }),
+        (
+            &["edit", "one", "b", "drop", "1", "isp"],
+            Outcome::Usage { at: 5 },
+        ),
+        (
+            &["edit", "one", "b", "show", "01"],
+            Outcome::Usage { at: 4 },
         ),
         (&["edit", "one", "one"], Outcome::WriteFault),
         (&["boxes", "empty"], Outcome::Done),
