@@ -48,8 +48,9 @@ fn put_items(file: &mut Vec<u8>, alloc: Global, count: u16, last: u32) -> Result
 
 #[test]
 fn offsets_take_eight_bytes_from_2_32_on(rt: HostRuntime) -> Result<(), Fail> {
-    let cases: [(u16, u32, u64); 5] = [
+    let cases: [(u16, u32, u64); 6] = [
         (16, RANGE, 1_073_742_569),
+        (17, RANGE, 1_140_851_470),
         (63, RANGE, 4_227_860_916),
         (64, 67_106_342, 4_294_967_295),
         (64, 67_106_343, 4_294_967_808),

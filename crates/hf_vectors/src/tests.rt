@@ -106,6 +106,8 @@ fn the_one_canonical_file_is_made(rt: HostRuntime) -> Result<(), Fail> {
     for (boxes, edits, made) in &cases {
         let file = file_of(rt.alloc(), DATA, boxes)?;
         assert!(rt; made_of(rt.alloc(), &file, edits, made)?);
+        // A file that is made is the canonical file of what it denotes.
+        assert!(rt; made_of(rt.alloc(), made, none, made)?);
     }
     assert!(rt; made_of(rt.alloc(), LOOSE, none, ONE)?);
     Ok(())
