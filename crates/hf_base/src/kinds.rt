@@ -65,6 +65,15 @@ pub const PICT: FourCc = FourCc(*b"pict");
 /// The brand of image files: ISO/IEC 23008-12.
 pub const MIF1: FourCc = FourCc(*b"mif1");
 
+/// The brand of image files coded as HEVC: ISO/IEC 23008-12.
+pub const HEIC: FourCc = FourCc(*b"heic");
+
+/// The type of an image coded as HEVC: ISO/IEC 23008-12.
+pub const HVC1: FourCc = FourCc(*b"hvc1");
+
+/// The type of metadata of a camera: ISO/IEC 23008-12.
+pub const EXIF: FourCc = FourCc(*b"Exif");
+
 /// The type of an item with a content type: ISO/IEC 14496-12.
 pub const MIME: FourCc = FourCc(*b"mime");
 
@@ -92,5 +101,32 @@ pub const IMIR: FourCc = FourCc(*b"imir");
 /// The property that cuts a window out of a picture: `CleanApertureBox` of ISO/IEC 14496-12.
 pub const CLAP: FourCc = FourCc(*b"clap");
 
+/// The property of a coded image's decoder configuration: `HEVCConfigurationBox` of ISO/IEC 14496-15.
+pub const HVCC: FourCc = FourCc(*b"hvcC");
+
+/// The property of a description by the user: `UserDescriptionProperty` of ISO/IEC 23008-12.
+pub const UDES: FourCc = FourCc(*b"udes");
+
+/// The property of the time at which an item was made: `CreationTimeProperty` of ISO/IEC 23008-12.
+pub const CRTT: FourCc = FourCc(*b"crtt");
+
+/// The property of the time at which an item was last changed: `ModificationTimeProperty` of ISO/IEC 23008-12.
+pub const MDFT: FourCc = FourCc(*b"mdft");
+
 /// The references of a derived image to what it is made of: ISO/IEC 23008-12.
 pub const DIMG: FourCc = FourCc(*b"dimg");
+
+/// The references of a picture to the one that it is predicted from: ISO/IEC 23008-12.
+pub const TBAS: FourCc = FourCc(*b"tbas");
+
+/// The references of a picture to one whose colours it is multiplied with: ISO/IEC 23008-12.
+pub const PREM: FourCc = FourCc(*b"prem");
+
+/// The references of a thumbnail to its picture: ISO/IEC 23008-12.
+pub const THMB: FourCc = FourCc(*b"thmb");
+
+/// The references of an auxiliary picture to its picture: ISO/IEC 23008-12.
+pub const AUXL: FourCc = FourCc(*b"auxl");
+
+/// The references of metadata to what it describes: ISO/IEC 14496-12.
+pub const CDSC: FourCc = FourCc(*b"cdsc");

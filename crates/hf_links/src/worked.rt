@@ -5,6 +5,8 @@ ghost use Rattle.hf_base.specs.declared.fault.ReadRefusal.TheVariants.{BadRecord
 ghost use Rattle.hf_base.specs.declared.kinds.TheConstants.{GRPL, IREF};
 ghost use Rattle.hf_links.specs.Grpl.{grpl_at, grpl_body};
 ghost use Rattle.hf_links.specs.Iref.{iref_at, iref_body, ref_box_at};
+ghost use Rattle.hf_links.specs.Kinds.{is_minor, is_need};
+ghost use Rattle.hf_box.specs.Literals.{four};
 ghost use Rattle.hf_links.specs.Worked.{two_lists, narrow_lists, wide_lists, free_bytes, no_lists, three_bytes, version_2, cut_box, short_count, short_ids, one_link, cut_link, references, two_groups, groups_box, no_groups, cut_groups, short_fields, short_entities, one_id_twice, many_entities, fewer_entities};
 
 /// References with ids of two bytes and of four, in file order, and as they are written.
@@ -49,4 +51,18 @@ pub fn groups_are_refused()
     ensures twice { grpl_at one_id_twice ≡ Err (DoubleGroup 9) }
     ensures rows { grpl_at many_entities ≡ Err (TooLarge GRPL 44) }
     ensures fewer { grpl_at fewer_entities ≡ Err (BadRecord GRPL 44) }
+{}
+
+/// A picture needs what it has `dimg`, `tbas` and `prem` references to, and is a minor one by those of
+/// type `thmb` and `auxl`; metadata has references of type `cdsc`.
+pub fn kinds_of_references()
+    ensures parts { is_need (four "dimg") ≡ true }
+    ensures prediction { is_need (four "tbas") ≡ true }
+    ensures colours { is_need (four "prem") ≡ true }
+    ensures thumbnail_needs { is_need (four "thmb") ≡ false }
+    ensures description_needs { is_need (four "cdsc") ≡ false }
+    ensures thumbnail { is_minor (four "thmb") ≡ true }
+    ensures auxiliary { is_minor (four "auxl") ≡ true }
+    ensures parts_minor { is_minor (four "dimg") ≡ false }
+    ensures description_minor { is_minor (four "cdsc") ≡ false }
 {}

@@ -1,5 +1,5 @@
 -- The properties of items.
-use Rattle.std.specs.Prelude.{ℕ, nat_eq, not, Bool, List, map, filter}
+use Rattle.std.specs.Prelude.{ℕ, nat_eq, not, ◌&&◌, Bool, List, map, filter}
 use Rattle.std.specs.List.{flat_map, list_any}
 use Rattle.hf_base.specs.declared.four.FourCc.{FourCc}
 use Rattle.hf_box.specs.Walk.{is_kind}
@@ -20,6 +20,17 @@ of_kind kind held = props_in (filter (is_of kind) held)
 -- the others, with their essential marks
 abbrev pub without_kind : FourCc → List Held → List Held
 without_kind kind held = filter (λ (h : Held). not (is_of kind h)) held
+
+abbrev pub is_optional_of : FourCc → Held → Bool
+is_optional_of kind h = is_of kind h && not h.essential
+
+-- those of one type that are not essential
+abbrev pub optional_of : FourCc → List Held → List Prop
+optional_of kind held = props_in (filter (is_optional_of kind) held)
+
+-- the others, with their essential marks
+abbrev pub without_optional : FourCc → List Held → List Held
+without_optional kind held = filter (λ (h : Held). not (is_optional_of kind h)) held
 
 -- all properties, one list after the other
 abbrev pub all_props : List (List Prop) → List Prop

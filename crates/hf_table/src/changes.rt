@@ -2,7 +2,7 @@
 
 ghost use Rattle.std.specs.Prelude.{◌≡◌, [], OnOk, OnErr};
 ghost use Rattle.std.specs.List.Sorted.{IsStrictlyIncreasing};
-ghost use Rattle.hf_table.specs.Held.{props_in, of_kind, is_among, props_of_others};
+ghost use Rattle.hf_table.specs.Held.{props_in, of_kind, optional_of, is_among, props_of_others};
 ghost use Rattle.hf_table.specs.Uses.{Gains, Trades, Holds, HasRoom};
 
 use crate::{Holder, Uses};
@@ -56,6 +56,19 @@ impl<'a> Uses<'a> {
         for held in props {
             let is_of_kind = held.prop.kind == kind;
             if is_of_kind {
+                self.take(&held.prop);
+            }
+        }
+    }
+
+    /// Of these properties those of one type that are not essential lose one holder each.
+    pub fn take_optional(&mut self, props: &[Held<'a>], kind: FourCc)
+        requires { Holds self.old (optional_of kind props.now) }
+        ensures { Gains self.new (optional_of kind props.now) self.old }
+    {
+        for held in props {
+            let is_optional = held.prop.kind == kind && !held.essential;
+            if is_optional {
                 self.take(&held.prop);
             }
         }

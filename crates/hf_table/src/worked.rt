@@ -2,7 +2,7 @@
 
 ghost use Rattle.std.specs.Prelude.{◌≡◌, ◌<◌, ℕ, List, [], ◌∷◌, false, true};
 ghost use Rattle.hf_box.specs.Literals.{four};
-ghost use Rattle.hf_table.specs.Held.{props_in, of_kind, without_kind, all_props, is_among, listed, others, props_of_others};
+ghost use Rattle.hf_table.specs.Held.{props_in, of_kind, optional_of, without_kind, without_optional, all_props, is_among, listed, others, props_of_others};
 ghost use Rattle.hf_table.specs.Numbered.{place_of, IsTableOf};
 ghost use Rattle.hf_table.specs.Table.{same_prop, table, number_of, places_of, prop_size, size_sum};
 ghost use Rattle.hf_table.specs.Uses.{holders_in, Gains, Trades, Tallies, IsCount};
@@ -57,6 +57,8 @@ pub fn properties_are_listed()
     ensures held { props_in (needed half ∷ other axis ∷ []) ≡ half ∷ axis ∷ [] }
     ensures of_type { of_kind (four "irot") (needed half ∷ other axis ∷ other quarter ∷ []) ≡ half ∷ quarter ∷ [] }
     ensures of_other_types { without_kind (four "irot") (needed half ∷ other axis ∷ other quarter ∷ needed axis ∷ []) ≡ other axis ∷ needed axis ∷ [] }
+    ensures optional { optional_of (four "irot") (needed half ∷ other axis ∷ other quarter ∷ []) ≡ quarter ∷ [] }
+    ensures not_optional { without_optional (four "irot") (needed half ∷ other axis ∷ other quarter ∷ needed axis ∷ []) ≡ needed half ∷ other axis ∷ needed axis ∷ [] }
     ensures all { all_props lists ≡ half ∷ axis ∷ axis ∷ quarter ∷ half ∷ [] }
     ensures among { is_among (2 ∷ 5 ∷ []) 5 ≡ true }
     ensures not_among { is_among (2 ∷ 5 ∷ []) 3 ≡ false }
