@@ -35,7 +35,7 @@ removal false false (Some by) e = absurd cc
 removal false false None e = (refl, refl, refl)
 
 pub free_to_go : (s : ItemStore) (id : ℕ) → why s (Remove id) ≡ None → ((s.primary == id) ≡ false) × (needed_by id s.items ≡ None)
-free_to_go s id free = (removal (is_absent id s) (s.primary == id) (needed_by id s.items) free).1
+free_to_go s id free = let parts = removal (is_absent id s) (s.primary == id) (needed_by id s.items) free in (parts.1, parts.2)
 
 -- ---- the item that is named stands at a place
 
