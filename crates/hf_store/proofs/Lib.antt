@@ -32,3 +32,4 @@ pub mod Spots
 pub mod Tables
 pub mod Tallied
 pub mod Uses
+pub mod Wholes
