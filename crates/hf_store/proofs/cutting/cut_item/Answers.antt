@@ -1,5 +1,4 @@
 use Rattle.std.proofs.Common.{◌∙◌, ap, sym}
-use Rattle.hf_store.specs.Changes.{cut_refs}
 use Rattle.hf_store.specs.Seen.{item_of}
 use Rattle.hf_store.specs.Stays.{stays_of}
 use Rattle.hf_store.proofs.Wholes.{cut_refs-whole}
