@@ -1,5 +1,7 @@
+pub mod Additions
 pub mod Edits
 pub mod Faults
 pub mod Left
+pub mod Pictures
 pub mod Seen
 pub mod Worked
