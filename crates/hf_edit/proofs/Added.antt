@@ -1,11 +1,11 @@
 -- A valid store stays valid where a good item comes that is made of no other one, as far as the limits are kept.
-use Rattle.std.proofs.Common.{◌≡◌, ◌<◌, ◌≤◌, ◌+◌, ◌-◌, ◌^◌, ℕ, zero, List, [], ◌∷◌, ◌++◌, length, map, max, fold, refl, sym, ap, ◌∙◌, subst, arith, inl, inr}
+use Rattle.std.proofs.Common.{◌≡◌, ◌<◌, ◌≤◌, ◌-◌, ◌^◌, ℕ, List, [], ◌∷◌, ◌++◌, length, map, max, fold, refl, sym, ap, ◌∙◌, subst, arith, inl, inr}
 use Rattle.std.specs.List.{AllByRecursion, flat_map}
 use Rattle.std.proofs.lemmas.Grind.{flat_map-append}
 use Rattle.std.proofs.lemmas.List.{append-nil, map-append}
 use Rattle.std.proofs.Math.Nat.{le-max_left, le-max_right, max-le}
 use Rattle.hf_base.specs.declared.limits.TheConstants as limits
-use Rattle.hf_order.proofs.Members.{in_back, in_front}
+use Rattle.hf_order.proofs.Members.{in_front}
 use Rattle.hf_store.specs.Changes.{added}
 use Rattle.hf_store.specs.Derived.{inputs, input_pairs, IsEndless}
 use Rattle.hf_store.specs.Lists.{IsIn, RisesFrom}
@@ -14,7 +14,7 @@ use Rattle.hf_store.specs.Table.{table_of}
 use Rattle.hf_store.specs.Valid.{body_sum, IsGoodGroup, IsGoodItem, meta_len, Valid}
 use Rattle.hf_edit.specs.Additions.{greatest_id}
 use Rattle.hf_edit.proofs.Goods.{all_good_groups, all_good_items, good_item}
-use Rattle.hf_edit.proofs.Members.{all_append, all_same}
+use Rattle.hf_edit.proofs.Members.{all_append}
 
 -- ---- the greatest id
 
@@ -79,7 +79,9 @@ module _ (s : ItemStore) (i : Item) where
       let alone : flat_map pairs (i ∷ []) ≡ [] = ap (λ (ids : List ℕ). map (λ to. (i.id, to)) ids ++ []) none in
       flat_map-append pairs s.items (i ∷ []) ∙ ap (λ ps. input_pairs s.items ++ ps) alone ∙ append-nil (input_pairs s.items)
 
-  pub valid_added : Valid s → IsGoodItem s.items i → ((id : ℕ) → IsIn id (ids_of s.items) → id < i.id) → inputs i.refs ≡ [] → AreKept (added i s) → Valid (added i s)
+  pub valid_added : Valid s → IsGoodItem s.items i → ((id : ℕ) → IsIn id (ids_of s.items) → id < i.id) → inputs i.refs ≡ []
+      → AreKept (added i s)
+      → Valid (added i s)
   valid_added valid good above alone kept = record {
     brands = valid.brands;
     ids_rise = subst (RisesFrom ◌<◌ 0) (sym ids-added) (rises_push 0 i.id (ids_of s.items) valid.ids_rise (omega (arith, above s.primary valid.primary)) above);

@@ -35,7 +35,8 @@ module _ (is js : List Item) (more : (id : ℕ) → IsIn id (ids_of is) → IsIn
   }
 
   -- with another mark and other properties too
-  pub good_changed : (i : Item) (hidden : Bool) (held : List Held) → IsGoodItem is i → AreGoodProps held → IsGoodItem js (record i { hidden = hidden; props = held })
+  pub good_changed : (i : Item) (hidden : Bool) (held : List Held) → IsGoodItem is i → AreGoodProps held
+      → IsGoodItem js (record i { hidden = hidden; props = held })
   good_changed i hidden held good props = record {
     id = good.id;
     kind = good.kind;

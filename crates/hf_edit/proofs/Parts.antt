@@ -1,8 +1,7 @@
 -- A valid store stays valid where items lose properties or change their marks.
-use Rattle.std.proofs.Common.{◌≡◌, ◌<◌, ◌≤◌, ℕ, Bool, true, ltb, List, [], ◌∷◌, ◌++◌, length, map, filter, refl, sym, ap, subst, arith, inl, inr, append_assoc}
+use Rattle.std.proofs.Common.{◌≡◌, ◌≤◌, ℕ, Bool, true, ltb, List, [], ◌∷◌, ◌++◌, length, map, filter, refl, sym, ap, subst, arith, inl, inr, append_assoc}
 use Rattle.std.specs.List.{AllByRecursion, flat_map}
 use Rattle.std.proofs.lemmas.Bool.{cases_Bool, cases_lt, lt-ltb, le-ltb}
-use Rattle.hf_base.specs.declared.limits.TheConstants as limits
 use Rattle.hf_box.specs.Written.{bit, id_width}
 use Rattle.hf_prop.specs.declared.held.Held.{Held}
 use Rattle.hf_prop.specs.declared.prop.Prop.{Prop}
@@ -31,6 +30,9 @@ pub filter-all : {A : Type 0} (xs : List A) → filter (λ x. true) xs ≡ xs
 filter-all [] = refl
 filter-all (x ∷ xs) = ap (λ ys. x ∷ ys) (filter-all xs)
 
+abbrev IsFourHeld : Held → Type 0
+IsFourHeld h = IsFour h.prop.kind
+
 all_filtered : {A : Type 0} (P : A → Type 0) (test : A → Bool) (xs : List A) → AllByRecursion P xs → AllByRecursion P (filter test xs)
 all_filtered P test [] all = tt
 all_filtered P test (x ∷ xs) all =
@@ -55,7 +57,9 @@ props_less : (test : Held → Bool) (before : List Prop) (hs : List Held) (after
 props_less test before [] after = itself (before ++ after)
 props_less test before (h ∷ hs) after =
     elim (cases_Bool (test h)) [
-      | inl here ↦ rw here (nested before (h.prop ∷ []) (props_in (filter test hs) ++ after) (props_in hs ++ after) (props_less test (before ++ h.prop ∷ []) hs after))
+      | inl here ↦
+          let rest = props_less test (before ++ h.prop ∷ []) hs after in
+          rw here (nested before (h.prop ∷ []) (props_in (filter test hs) ++ after) (props_in hs ++ after) rest)
       | inr gone ↦
           rw gone (transitive (before ++ (props_in (filter test hs) ++ after)) (before ++ (props_in hs ++ after)) (before ++ (h.prop ∷ (props_in hs ++ after)))
           (props_less test before hs after) (without_some before (h.prop ∷ []) (props_in hs ++ after)))
@@ -67,6 +71,7 @@ any-mono m n le =
       | inl some ↦ let more : ltb 0 n ≡ true = lt-ltb 0 n (omega arith) in rw (lt-ltb 0 m some, more) (omega arith)
       | inr none ↦ rw (le-ltb 0 m none) (omega arith)
     ]
+
 -- ---- a part of each item
 
 module _ (f : Item → Item) (part : (i : Item) → IsPart i (f i)) where
@@ -107,7 +112,8 @@ module _ (f : Item → Item) (part : (i : Item) → IsPart i (f i)) where
       nested before (props_of (f i)) now old (behind (before ++ props_of (f i)) is)
       in
       let here : IsLess (before ++ (props_of (f i) ++ old)) (before ++ (props_of i ++ old)) =
-      subst (λ (hs : List Held). IsLess (before ++ (props_in hs ++ old)) (before ++ (props_of i ++ old))) (sym (part i).stays.1) (props_less test before i.props old)
+      subst (λ (hs : List Held). IsLess (before ++ (props_in hs ++ old)) (before ++ (props_of i ++ old))) (sym (part i).stays.1)
+      (props_less test before i.props old)
       in
       transitive (before ++ (props_of (f i) ++ now)) (before ++ (props_of (f i) ++ old)) (before ++ (props_of i ++ old)) rest here
 
@@ -117,11 +123,8 @@ module _ (f : Item → Item) (part : (i : Item) → IsPart i (f i)) where
     good : (i : Item) → IsIn i s.items → AreGoodProps (f i).props
     good i there =
         let whole = in_all (IsGoodItem s.items) s.items i valid.items there in
-        let some = (part i).stays.1 in
-        record {
-          few = omega (arith, picks-part i, whole.props);
-          kinds = subst (AllByRecursion (λ (h : Held). IsFour h.prop.kind)) (sym some) (all_filtered (λ (h : Held). IsFour h.prop.kind) (part i).stays.0 i.props whole.prop_kinds);
-        }
+        let kinds = all_filtered IsFourHeld (part i).stays.0 i.props whole.prop_kinds in
+        record { few = omega (arith, picks-part i, whole.props); kinds = subst (AllByRecursion IsFourHeld) (sym (part i).stays.1) kinds }
 
     fours : AreFours (record s { items = map f s.items })
     fours = good_fours (record s { items = map f s.items }) (items_good f alike s valid good) (valid_fours s valid).groups

@@ -1,6 +1,6 @@
 -- The size of a picture is that of its properties as a whole.
-use Rattle.std.proofs.Common.{◌≡◌, ◌↔◌, ◌+◌, ◌-◌, ◌^◌, ◌%◌, ◌<◌, ◌≤◌, ◌⊎◌, ℕ, Bool, true, false, not, cond, List, [], ◌∷◌, ◌++◌, fold, refl, sym, ap, ◌∙◌, subst, arith, inl, inr, Option, Some, None}
-use Rattle.std.specs.Prelude.{◌==◌, count_by, slice_get, option_map, IsTrue, nat_lt}
+use Rattle.std.proofs.Common.{◌≡◌, ◌+◌, ◌^◌, ◌%◌, ◌⊎◌, ℕ, Bool, true, false, not, cond, List, [], ◌∷◌, ◌++◌, fold, refl, sym, ap, ◌∙◌, subst, arith, inl, inr, Option, Some, None}
+use Rattle.std.specs.Prelude.{◌==◌, slice_get, option_map, IsTrue, nat_lt}
 use Rattle.std.specs.List.{AllByRecursion}
 use Rattle.std.specs.Option.{option_and_then}
 use Rattle.std.proofs.lemmas.Bool.{and_from, and_parts, cases_Bool, cond-false, cond-true, eq-eqb, eqb-false, eqb-true, lt-ltb, ltb-true, ne_eqb}
@@ -130,7 +130,8 @@ none_behind h hs none =
     ]
 
 -- without a `clap` the odd turns are counted
-fold-turns : (size : ℕ × ℕ) (hs : List Held) → AllByRecursion HasView hs → of_kind CLAP hs ≡ [] → fold sized_by (Some size) hs ≡ Some (turned size (odd_turns hs))
+fold-turns : (size : ℕ × ℕ) (hs : List Held) → AllByRecursion HasView hs → of_kind CLAP hs ≡ []
+    → fold sized_by (Some size) hs ≡ Some (turned size (odd_turns hs))
 fold-turns size [] views none = refl
 fold-turns size (h ∷ hs) views none =
     let parts = none_behind h hs none in
@@ -139,7 +140,8 @@ fold-turns size (h ∷ hs) views none =
     ∙ fold-turns (turned_by (turn_in h.prop) size) hs views.1 parts.1
     ∙ ap Some (turned-more (odd h) size (odd_turns hs) ∙ ap (turned size) (sym (sum_by-cons (λ g. cond (odd g) 1 0) h hs)))
 
-views_before : (before : List Held) (h : Held) (behind : List Held) → AllByRecursion HasView (before ++ h ∷ behind) → AllByRecursion HasView before × AllByRecursion HasView behind
+views_before : (before : List Held) (h : Held) (behind : List Held) → AllByRecursion HasView (before ++ h ∷ behind)
+    → AllByRecursion HasView before × AllByRecursion HasView behind
 views_before [] h behind views = (tt, views.1)
 views_before (g ∷ before) h behind views = let rest = views_before before h behind views.1 in ((views.0, rest.0), rest.1)
 

@@ -94,6 +94,16 @@ changed_left e id change i there other =
       | inr differs ↦ subst (λ b. IsLeft e i (cond b (change i) i)) (sym differs) other
     ]
 
+-- other properties of the item with the id
+props_left : (e : Edit) (id : ℕ) (props : Item → List Held) (i : Item) → (i.id ≡ id → Reshapes e i.id) → AreLeft e i.refs i.refs
+    → IsLeft e i (changed id (reshaped props) i)
+props_left e id props i reshapes refs = changed_left e id (reshaped props) i (λ same. reshaped_left e props i (reshapes same) refs) (whole_left e i refs)
+
+-- and its mark
+mark_left : (e : Edit) (id : ℕ) (hidden : Bool) (i : Item) → (i.id ≡ id → Marks e i.id) → AreLeft e i.refs i.refs
+    → IsLeft e i (changed id (hide hidden) i)
+mark_left e id hidden i marks refs = changed_left e id (hide hidden) i (λ same. marked_left e hidden i (marks same) refs) (whole_left e i refs)
+
 -- what an edit makes of each item that it does not take away
 abbrev left : Edit → Item → Item
 left (Remove id) i = cut_item (is_other id) i
@@ -114,20 +124,12 @@ is_left (AddExif id tiff) i = whole_left (AddExif id tiff) i refl
 is_left (AddXmp id text) i = whole_left (AddXmp id text) i refl
 is_left (Thumb id donor) i = whole_left (Thumb id donor) i refl
 is_left (Primary id) i = whole_left (Primary id) i refl
-is_left (Rotate id quarters) i =
-    let e = Rotate id quarters in
-    changed_left e id _ i (λ same. reshaped_left e (λ (j : Item). rotated quarters j.props) i same refl) (whole_left e i refl)
-is_left (Mirror id axis) i =
-    let e = Mirror id axis in
-    changed_left e id _ i (λ same. reshaped_left e (λ (j : Item). mirrored axis j.props) i same refl) (whole_left e i refl)
-is_left (Crop id x y w h) i =
-    let e = Crop id x y w h in
-    changed_left e id _ i (λ same. reshaped_left e (cropped x y w h) i same refl) (whole_left e i refl)
-is_left (Hide id) i = changed_left (Hide id) id (hide true) i (λ same. marked_left (Hide id) true i same refl) (whole_left (Hide id) i refl)
-is_left (Show id) i = changed_left (Show id) id (hide false) i (λ same. marked_left (Show id) false i same refl) (whole_left (Show id) i refl)
-is_left (Drop id kind) i =
-    let e = Drop id kind in
-    changed_left e id _ i (λ same. reshaped_left e (λ (j : Item). (lacking kind j).props) i same refl) (whole_left e i refl)
+is_left (Rotate id quarters) i = props_left (Rotate id quarters) id (λ (j : Item). rotated quarters j.props) i (λ same. same) refl
+is_left (Mirror id axis) i = props_left (Mirror id axis) id (λ (j : Item). mirrored axis j.props) i (λ same. same) refl
+is_left (Crop id x y w h) i = props_left (Crop id x y w h) id (cropped x y w h) i (λ same. same) refl
+is_left (Hide id) i = mark_left (Hide id) id true i (λ same. same) refl
+is_left (Show id) i = mark_left (Show id) id false i (λ same. same) refl
+is_left (Drop id kind) i = props_left (Drop id kind) id (λ (j : Item). (lacking kind j).props) i (λ same. same) refl
 
 -- ---- the items after an edit
 
@@ -166,7 +168,9 @@ items-step s (Drop id kind) = with_none (map (left (Drop id kind)) s.items)
 
 -- an item stays that is not taken
 in_staying : (e : Edit) (i : Item) (is : List Item) → IsIn i is → (Takes e i.id → ⊥) → IsIn i (staying e is)
-in_staying (Remove id) i is there stays = let other : is_other id i.id ≡ true = ap not (differ i.id id stays) in in_filter (λ (j : Item). is_other id j.id) i is other there
+in_staying (Remove id) i is there stays =
+    let other : is_other id i.id ≡ true = ap not (differ i.id id stays) in
+    in_filter (λ (j : Item). is_other id j.id) i is other there
 in_staying (AddExif id tiff) i is there stays = there
 in_staying (AddXmp id text) i is there stays = there
 in_staying (Thumb id donor) i is there stays = there
