@@ -1,7 +1,10 @@
 -- The items that edits add are good.
-use Rattle.std.proofs.Common.{◌≡◌, ◌<◌, ◌+◌, ◌-◌, ◌^◌, ◌&&◌, ℕ, Bool, true, false, List, [], ◌∷◌, length, refl, sym, ap, ◌∙◌, arith, inl, inr, eqb-true, Option, Some, None}
+use Rattle.std.proofs.Common.{◌≡◌, ◌<◌, ◌+◌, ◌-◌, ◌^◌, ◌&&◌, ℕ, Bool, true, false, List, [], ◌∷◌, ◌++◌, length, refl, sym, ap, ◌∙◌, arith, inl, inr, eqb-true, Option, Some, None}
 use Rattle.std.specs.Prelude.{◌==◌, nat_lt, IsTrue}
+use Rattle.std.specs.List.{flat_map}
 use Rattle.std.specs.Option.{is_none}
+use Rattle.std.proofs.lemmas.Grind.{flat_map-append}
+use Rattle.std.proofs.lemmas.List.{append-nil}
 use Rattle.std.proofs.lemmas.Bool.{and_cases, cases_Bool, eq-eqb, eqb-false, ltb-false, or_parts}
 use Rattle.hf_base.specs.declared.four.FourCc.{FourCc}
 use Rattle.hf_base.specs.declared.limits.TheConstants as limits
@@ -10,12 +13,15 @@ use Rattle.hf_box.specs.Walk.{is_kind}
 use Rattle.hf_store.specs.Changes.{added}
 use Rattle.hf_store.specs.Derived.{fits, inputs}
 use Rattle.hf_store.specs.Lists.{IsIn}
-use Rattle.hf_store.specs.Store.{Item, ItemStore, ids_of}
-use Rattle.hf_store.specs.Table.{table_of}
+use Rattle.hf_store.specs.Store.{Held, Item, ItemStore, ids_of}
+use Rattle.hf_store.specs.Table.{props_of, table_of}
+use Rattle.hf_table.specs.Held.{props_in}
+use Rattle.hf_table.specs.Table.{table}
 use Rattle.hf_store.specs.Valid.{body_sum, IsFour, IsGoodItem, IsGoodRef, meta_len, Valid}
 use Rattle.hf_store.proofs.Spots.{some_is}
 use Rattle.hf_edit.specs.Additions.{exif_item, greatest_id, item_with, next_id_of, primary_item, thumbnail_item, xmp_item}
 use Rattle.hf_edit.specs.Edits.{is_derived, primary_is, with_thumbnail}
+use Rattle.hf_edit.specs.Left.{MetadataHasNoProps}
 use Rattle.hf_edit.proofs.Added.{AreKept, greatest_id_fits, le-greatest_id, valid_added}
 use Rattle.hf_edit.proofs.Members.{in_all, none_passes}
 
@@ -148,3 +154,16 @@ module _ (s : ItemStore) (id : ℕ) (there : IsIn id (ids_of s.items)) (fits : g
       valid_more (thumbnail_item picture id (greatest_id s + 1)) valid refl refl
       (good_thumbnail donor.items picture good_picture (found_fails is_derived donor picture is plain))
       kept
+
+-- ---- metadata has no properties
+
+table-added : (s : ItemStore) (i : Item) → i.props ≡ [] → table_of (added i s) ≡ table_of s
+unfolding table_of
+table-added s i none =
+    let alone : flat_map props_of (i ∷ []) ≡ [] = ap (λ (hs : List Held). props_in hs ++ []) none in
+    ap table
+    (flat_map-append props_of s.items (i ∷ []) ∙ ap (λ ps. flat_map props_of s.items ++ ps) alone ∙ append-nil (flat_map props_of s.items))
+
+pub metadata_has_no_props : MetadataHasNoProps
+metadata_has_no_props s id bytes =
+    (table-added s (exif_item bytes id (greatest_id s + 1)) refl, table-added s (xmp_item bytes id (greatest_id s + 1)) refl)

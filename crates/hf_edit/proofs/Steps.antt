@@ -11,9 +11,9 @@ use Rattle.hf_store.specs.Sizes.{AreFours, counted_meta}
 use Rattle.hf_store.specs.Store.{Item, ItemStore, ids_of}
 use Rattle.hf_store.specs.Table.{table_of}
 use Rattle.hf_store.specs.Valid.{meta_len, Valid}
-use Rattle.hf_store.proofs.CutValid.{valid_removed}
 use Rattle.hf_store.proofs.Spots.{at_or, within_at}
 use Rattle.hf_store.proofs.MetaCounts.{good_fours, valid_fours, meta_is_counted}
+use Rattle.hf_deps.proofs.Needers.{valid_unneeded}
 use Rattle.hf_edit.specs.Additions.{exif_item, greatest_id, primary_item, xmp_item}
 use Rattle.hf_edit.specs.Edits.{Edit, Remove, AddExif, AddXmp, Thumb, Primary, Rotate, Mirror, Crop, Hide, Show, Drop, step, with_item, why}
 use Rattle.hf_edit.specs.Left.{IsGoodEdit, StepsKeepValidity}
@@ -76,7 +76,7 @@ valid_changed id change part s valid =
 -- ---- the law
 
 valid_step : (s : ItemStore) (e : Edit) → Valid s → IsGoodEdit e → IsFree s e → Valid (step s e)
-valid_step s (Remove id) valid good free = valid_removed s id valid (rw (free.there, free.shown, free.unneeded) refl)
+valid_step s (Remove id) valid good free = valid_unneeded s id valid free.shown free.unneeded
 valid_step s (AddExif id tiff) valid good free =
     let there = is_somewhere s id free.there in
     let fits = next_fits s valid free.ids in

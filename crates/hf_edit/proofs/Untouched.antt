@@ -8,10 +8,9 @@ use Rattle.hf_store.specs.Changes.{cut, cut_item, cut_refs, hide, is_other, lack
 use Rattle.hf_store.specs.Lists.{IsIn, not_empty}
 use Rattle.hf_store.specs.Store.{Held, Item, ItemStore, ids_of}
 use Rattle.hf_store.specs.declared.item.RefList.{RefList}
-use Rattle.hf_store.specs.Untouched.{ids_without, refs_without}
 use Rattle.hf_edit.specs.Additions.{greatest_id, primary_item}
 use Rattle.hf_edit.specs.Edits.{Edit, Remove, AddExif, AddXmp, Thumb, Primary, Rotate, Mirror, Crop, Hide, Show, Drop, reshaped, step, with_thumbnail}
-use Rattle.hf_edit.specs.Left.{AddedItemsCome, AreGroupsLeft, AreLeft, IsLeft, IsPrimaryLeft, Marks, NoItemComes, Reshapes, RestStays, Takes, UntouchedItemsStay, coming, thumbnail_coming}
+use Rattle.hf_edit.specs.Left.{AddedItemsCome, AreGroupsLeft, AreLeft, IsLeft, IsPrimaryLeft, Marks, NoItemComes, Reshapes, RestStays, Takes, UntouchedItemsStay, coming, ids_without, refs_without, thumbnail_coming}
 use Rattle.hf_edit.specs.Pictures.{cropped, mirrored, rotated}
 use Rattle.hf_edit.proofs.Members.{filter_in, in_filter, in_map, map_in}
 use Rattle.hf_edit.proofs.Named.{differ}

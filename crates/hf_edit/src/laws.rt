@@ -1,6 +1,6 @@
 //! Laws of the edits. Each is the contract of a function that does nothing.
 
-ghost use Rattle.hf_edit.specs.Left.{AddedItemsCome, NoItemComes, RestStays, StepsKeepValidity, UntouchedItemsStay};
+ghost use Rattle.hf_edit.specs.Left.{AddedItemsCome, MetadataHasNoProps, NoItemComes, RestStays, StepsKeepValidity, UntouchedItemsStay};
 ghost use Rattle.hf_edit.specs.PictureSize.{PictureSizeIsTold};
 
 /// An edit against which there is no reason leaves a valid store valid, where the store that a
@@ -21,9 +21,11 @@ pub fn untouched_items_stay()
 {}
 
 /// The brands stay, the primary item but with `Primary`, the order of the items, behind which an
-/// added one stands, and the groups but for the id of a removed item.
+/// added one stands, and the groups but for the id of a removed item. Metadata that comes has no
+/// properties, so that `KindsFull` never speaks against it.
 pub fn rest_stays()
-    ensures { RestStays }
+    ensures rest { RestStays }
+    ensures kinds { MetadataHasNoProps }
 {}
 
 /// The size of a picture is the window of the last `clap` (CleanApertureBox of ISO/IEC 14496-12), or
