@@ -3,20 +3,20 @@ use Rattle.std.proofs.Common.{◌≡◌, ◌<◌, ◌+◌, ◌-◌, ◌^◌, ◌
 use Rattle.std.specs.Prelude.{◌==◌, nat_lt, IsTrue}
 use Rattle.std.specs.List.{flat_map}
 use Rattle.std.specs.Option.{is_none}
+use Rattle.std.proofs.lemmas.Bool.{and_cases, cases_Bool, eq-eqb, eqb-false, ltb-false, or_parts}
 use Rattle.std.proofs.lemmas.Grind.{flat_map-append}
 use Rattle.std.proofs.lemmas.List.{append-nil}
-use Rattle.std.proofs.lemmas.Bool.{and_cases, cases_Bool, eq-eqb, eqb-false, ltb-false, or_parts}
 use Rattle.hf_base.specs.declared.four.FourCc.{FourCc}
 use Rattle.hf_base.specs.declared.limits.TheConstants as limits
 use Rattle.hf_box.specs.Literals.{four}
 use Rattle.hf_box.specs.Walk.{is_kind}
+use Rattle.hf_table.specs.Held.{props_in}
+use Rattle.hf_table.specs.Table.{table}
 use Rattle.hf_store.specs.Changes.{added}
 use Rattle.hf_store.specs.Derived.{fits, inputs}
 use Rattle.hf_store.specs.Lists.{IsIn}
 use Rattle.hf_store.specs.Store.{Held, Item, ItemStore, ids_of}
 use Rattle.hf_store.specs.Table.{props_of, table_of}
-use Rattle.hf_table.specs.Held.{props_in}
-use Rattle.hf_table.specs.Table.{table}
 use Rattle.hf_store.specs.Valid.{body_sum, IsFour, IsGoodItem, IsGoodRef, meta_len, Valid}
 use Rattle.hf_store.proofs.Spots.{some_is}
 use Rattle.hf_edit.specs.Additions.{exif_item, greatest_id, item_with, next_id_of, primary_item, thumbnail_item, xmp_item}
