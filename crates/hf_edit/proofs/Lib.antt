@@ -1,6 +1,14 @@
+pub mod Added
+pub mod Alike
 pub mod Arms
 pub mod Chains
+pub mod Coming
+pub mod Free
+pub mod Goods
+pub mod Members
 pub mod Named
 pub mod Parts
+pub mod PictureSize
+pub mod Reshaped
 pub mod Steps
 pub mod Untouched

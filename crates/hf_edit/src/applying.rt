@@ -32,6 +32,7 @@ fn make(store: &mut Store<'_>, i: usize, edit: &Edit)
         Edit::Hide { .. } => store.set_hidden(i, true),
         Edit::Show { .. } => store.set_hidden(i, false),
         Edit::Drop { kind, .. } => store.drop_props(i, kind),
+        _ => store.clear_names(),
     }
 }
 

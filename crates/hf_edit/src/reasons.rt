@@ -125,6 +125,7 @@ fn against(store: &Store<'_>, i: usize, edit: &Edit) -> Option<Reason>
         Edit::Hide { id } => against_hiding(store, id),
         Edit::Show { .. } => None,
         Edit::Drop { kind, .. } => against_dropping(store.at(i), kind),
+        _ => None,
     }
 }
 
