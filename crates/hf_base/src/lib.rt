@@ -27,6 +27,3 @@ pub use loc::{Extent, Extents, Loc, RefBox};
 pub use number::{be_put, be16, be32, be64};
 pub use seen::SeenIds;
 pub use series::{Series, TryClone};
-
-#[cfg(test)]
-mod tests;

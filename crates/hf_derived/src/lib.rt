@@ -14,6 +14,3 @@ pub use cycle::derive_cycle;
 pub use fitting::fits;
 pub use grid::{Grid, read_grid};
 pub use overlay::{Overlay, read_overlay};
-
-#[cfg(test)]
-mod tests;

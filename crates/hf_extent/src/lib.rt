@@ -11,6 +11,3 @@ mod sizes;
 mod sources;
 
 pub use resolving::resolve;
-
-#[cfg(test)]
-mod tests;

@@ -10,6 +10,3 @@ pub mod worked;
 pub use ftyp::{Brands, give_ftyp, put_ftyp, read_ftyp};
 pub use hdlr::{give_hdlr, put_hdlr, read_hdlr};
 pub use pitm::{give_pitm, put_pitm, read_pitm};
-
-#[cfg(test)]
-mod tests;

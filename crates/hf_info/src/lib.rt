@@ -11,6 +11,3 @@ pub mod worked;
 pub use iinf::read_iinf;
 pub use infe::Info;
 pub use put::{give_infe, infe_size, put_infe};
-
-#[cfg(test)]
-mod tests;

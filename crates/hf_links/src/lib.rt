@@ -12,6 +12,3 @@ pub use grpl::{Group, give_group, put_group, read_grpl};
 pub use hf_base::RefBox;
 pub use iref::{give_ref, put_ref, read_iref};
 pub use kinds::{is_minor_kind, is_need_kind};
-
-#[cfg(test)]
-mod tests;

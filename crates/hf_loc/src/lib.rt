@@ -11,6 +11,3 @@ mod widths;
 pub use entry::{entry_size, give_entry, put_entry};
 pub use hf_base::{Extent, Extents, Loc};
 pub use iloc::read_iloc;
-
-#[cfg(test)]
-mod tests;

@@ -7,6 +7,3 @@ mod ordering;
 mod steps;
 
 pub use ordering::{Order, order_of};
-
-#[cfg(test)]
-mod tests;

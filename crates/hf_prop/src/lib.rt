@@ -18,6 +18,3 @@ pub use iprp::{Iprp, read_iprp};
 pub use makers::{mirror, turn, window};
 pub use prop::{Prop, PropList};
 pub use views::{axis_of, size_of, turn_of, window_of};
-
-#[cfg(test)]
-mod tests;

@@ -4,7 +4,6 @@ pub mod Lists
 pub mod Makes
 pub mod Numbers
 pub mod Others
-pub mod Passes
 pub mod Places
 pub mod Rooms
 pub mod Sets
@@ -12,6 +11,5 @@ pub mod Steps
 pub mod Stores
 pub mod Tables
 pub mod Tally
-pub mod TestRooms
 pub mod Unique
 pub mod Writes

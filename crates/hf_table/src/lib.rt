@@ -14,6 +14,3 @@ pub use holder::{Holder, PropLists};
 pub use making::make_table;
 pub use table::Table;
 pub use uses::Uses;
-
-#[cfg(test)]
-mod tests;

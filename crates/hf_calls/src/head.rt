@@ -1,11 +1,13 @@
+//! `ftyp`, `hdlr` and `pitm`, read and written.
+
 ghost use Rattle.std.specs.Prelude.{◌≡◌, ◌≤◌, length};
 ghost use Rattle.hf_base.specs.declared.limits.TheConstants.{FILE};
 
-use super::*;
 use hf_base::kinds::{FTYP, HDLR, PITM};
 use hf_base::{FourCc, ReadRefusal};
 use hf_box::BoxView;
 use hf_desk::{Desk, MemoryDesk};
+use hf_head::{Brands, put_ftyp, put_hdlr, put_pitm, read_ftyp, read_hdlr, read_pitm};
 use std::test::Fail;
 
 /// A `ftyp` of the brands `heic`, `mif1` and `heic`.

@@ -2,8 +2,8 @@ use Rattle.std.proofs.Common.{◌∙◌, ◌≡◌, sym, ap, subst}
 use Rattle.hf_table.specs.Held.{props_in}
 use Rattle.hf_table.specs.Uses.{Holds}
 use Rattle.hf_table.proofs.Lists.{holds-those}
-use Rattle.hf_table.proofs.TestRooms.{light-turn, light-mirror, small, room-at-first, room-next}
-use Rattle.hf_table.proofs.tests.properties_are_replaced.Goals as goal
+use Rattle.hf_calls.proofs.TestRooms.{light-turn, light-mirror, small, room-at-first, room-next}
+use Rattle.hf_calls.proofs.table.properties_are_replaced.Goals as goal
 
 pub add_all-requires : goal.add_all-requires
 add_all-requires g c =

@@ -1,6 +1,6 @@
 //! A small graph, with its order by hand.
 
-use super::*;
+use hf_order::order_of;
 use std::test::Fail;
 
 #[test]

@@ -1,7 +1,7 @@
 use Rattle.std.proofs.Common.{◌∙◌}
 use Rattle.hf_table.specs.Held.{props_in}
-use Rattle.hf_table.proofs.TestRooms.{light-turn, small, room-at-first}
-use Rattle.hf_table.proofs.tests.properties_are_added.Goals as goal
+use Rattle.hf_calls.proofs.TestRooms.{light-turn, small, room-at-first}
+use Rattle.hf_calls.proofs.table.properties_are_added.Goals as goal
 
 pub add_all-requires : goal.add_all-requires
 add_all-requires g c =

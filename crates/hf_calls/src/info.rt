@@ -1,11 +1,13 @@
+//! Entries of `iinf`, read and written.
+
 ghost use Rattle.std.specs.Prelude.{◌≡◌, ◌<◌, ◌^◌};
 ghost use Rattle.hf_box.specs.Boxes.{box_of, end_of};
 
-use super::*;
 use hf_base::kinds::{IINF, INFE};
 use hf_base::{FourCc, OpenFault, ReadRefusal, be_put};
 use hf_box::BoxView;
 use hf_desk::{Desk, MemoryDesk};
+use hf_info::{Info, infe_size, put_infe, read_iinf};
 use std::alloc::Global;
 use std::test::Fail;
 

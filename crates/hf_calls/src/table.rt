@@ -3,9 +3,9 @@
 ghost use Rattle.std.specs.Prelude.{◌≡◌, [], ◌∷◌, map, IfOk};
 ghost use Rattle.hf_table.specs.Held.{props_in};
 
-use super::*;
 use hf_base::{NoMemory, Series};
 use hf_prop::{Held, Prop, mirror, turn};
+use hf_table::{Holder, PropLists, Uses, make_table};
 use std::alloc::Global;
 use std::test::Fail;
 

@@ -1,10 +1,12 @@
+//! Entries of `iloc`, read and written.
+
 ghost use Rattle.std.specs.Prelude.{◌≡◌};
 
-use super::*;
 use hf_base::kinds::ILOC;
 use hf_base::{OpenFault, ReadRefusal};
 use hf_box::BoxView;
 use hf_desk::{Desk, MemoryDesk};
+use hf_loc::{Extent, entry_size, put_entry, read_iloc};
 use std::alloc::Global;
 use std::test::Fail;
 

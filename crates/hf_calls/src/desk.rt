@@ -1,4 +1,6 @@
-use super::*;
+//! Reading, making and saying over desks that count and fail.
+
+use hf_desk::{CountingDesk, Desk, MemoryDesk, ReadStop, make_file, read_all, say_all};
 use std::alloc::Global;
 use std::test::Fail;
 

@@ -1,13 +1,15 @@
+//! References and groups, read and written.
+
 ghost use Rattle.std.specs.Prelude.{◌≡◌, ◌<◌, ◌≤◌, ◌^◌, length, IfOk};
 ghost use Rattle.hf_base.specs.declared.limits.TheConstants.{META};
 ghost use Rattle.hf_box.specs.Head.{box_len};
 ghost use Rattle.hf_links.specs.Grpl.{group_body, group_of};
 
-use super::*;
 use hf_base::kinds::{DIMG, GRPL, IREF};
 use hf_base::{FourCc, Ids, NoMemory, OpenFault, ReadRefusal, TryClone};
 use hf_box::BoxView;
 use hf_desk::{Desk, MemoryDesk};
+use hf_links::{Group, RefBox, put_group, put_ref, read_grpl, read_iref};
 use std::alloc::Global;
 use std::test::Fail;
 

@@ -1,4 +1,6 @@
-use super::*;
+//! Lists that are copied.
+
+use hf_base::{Extent, Extents, Ids, TryClone};
 use std::test::Fail;
 
 #[test]

@@ -1,10 +1,15 @@
+//! Properties and their associations, read, viewed and made.
+
 ghost use Rattle.std.specs.Prelude.{◌≡◌, ◌<◌, ◌^◌};
 ghost use Rattle.hf_box.specs.Boxes.{box_of, end_of};
 
-use super::*;
 use hf_base::kinds::{CLAP, IPCO, IPMA, IPRP, ISPE};
 use hf_base::{OpenFault, ReadRefusal, Series, TryClone};
 use hf_box::BoxView;
+use hf_prop::{
+    Body, Held, Iprp, Pick, Prop, axis_of, mirror, read_iprp, size_of, turn, turn_of, window,
+    window_of,
+};
 use std::alloc::Global;
 use std::test::Fail;
 

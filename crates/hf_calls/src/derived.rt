@@ -1,7 +1,7 @@
 //! Cycles by hand, and payloads that lie in two pieces.
 
-use super::*;
 use hf_base::kinds::{GRID, IDEN, IOVL};
+use hf_derived::{Grid, derive_cycle, fits, read_grid};
 use hf_pieces::Pieces;
 use std::test::Fail;
 

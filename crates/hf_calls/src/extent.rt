@@ -2,9 +2,9 @@
 
 ghost use Rattle.std.specs.Prelude.{◌≡◌, IfOk};
 
-use super::*;
 use hf_base::kinds::ILOC;
 use hf_base::{Extent, Extents, Ids, Loc, NoMemory, OpenFault, ReadRefusal, RefBox};
+use hf_extent::resolve;
 use std::alloc::Global;
 use std::test::Fail;
 
