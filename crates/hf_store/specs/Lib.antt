@@ -14,6 +14,7 @@ pub mod Measured
 pub mod Picks
 pub mod References
 pub mod Plain
+pub mod Room
 pub mod Seen
 pub mod Sizes
 pub mod Stays

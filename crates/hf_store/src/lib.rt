@@ -24,7 +24,7 @@ pub use item::{GroupList, Item, ItemList, Props, RefList, Refs};
 pub use reason::Reason;
 pub use removal::{needed_by, remove_item};
 pub use store::{Parts, Store};
-pub use tally::{Counts, in_idat};
+pub use tally::{Counts, count_item, in_idat};
 
 #[cfg(test)]
 mod tests;
