@@ -21,6 +21,8 @@ pub mod LaidFiles
 pub mod LargeStores
 pub mod Lengths
 pub mod Listed
+pub mod Loads
+pub mod Rooms
 pub mod Mapped
 pub mod References
 pub mod Measured
@@ -29,6 +31,7 @@ pub mod Names
 pub mod Needers
 pub mod Offsets
 pub mod Others
+pub mod Parted
 pub mod Passed
 pub mod PlainLengths
 pub mod Pushed
