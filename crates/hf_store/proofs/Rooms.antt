@@ -4,7 +4,7 @@ use Rattle.std.specs.Prelude.{slice_get}
 use Rattle.std.specs.List.{AllByRecursion, flat_map, remove}
 use Rattle.std.proofs.lemmas.Bool.{cases_lt, lt-leb, le-leb}
 use Rattle.std.proofs.lemmas.Grind.{flat_map-append}
-use Rattle.std.proofs.lemmas.List.{append-nil, drop_all, length-append, length-drop, map-append, take_all, take-append-drop}
+use Rattle.std.proofs.lemmas.List.{append-nil, drop_all, length-append, length-drop, length-take, map-append, take_all, take-append-drop}
 use Rattle.hf_base.specs.declared.limits.TheConstants as limits
 use Rattle.hf_prop.specs.declared.prop.Prop.{Prop}
 use Rattle.hf_box.specs.Written.{bit}
@@ -14,7 +14,7 @@ use Rattle.hf_table.specs.Uses.{Use, Tallies}
 use Rattle.hf_table.proofs.Tally.{places-append, table-length, table-sizes}
 use Rattle.hf_store.specs.Capped.{capped, capped_counts}
 use Rattle.hf_store.specs.Changes.{changed_at, holding, with_props, added}
-use Rattle.hf_store.specs.Counts.{Counts, plus, counts_of_item, counts_of, with_items}
+use Rattle.hf_store.specs.Counts.{Counts, plus, counts_of_item, counts_of_groups, counts_of, with_items}
 use Rattle.hf_store.specs.Layout.{has_props}
 use Rattle.hf_store.specs.Room.{props_at, props_with, Adds, AreFourHeld, AreFourRefs}
 use Rattle.hf_store.specs.Sizes.{AreFew, AreFours, counted_meta, AllRefs, AllProps, IsFourItem, IsFourList, IsFourProp}
@@ -32,6 +32,7 @@ use Rattle.hf_store.proofs.Few.{light_props}
 use Rattle.hf_store.proofs.FewCounts.{counts_few}
 use Rattle.hf_store.proofs.Loads.{less-front}
 use Rattle.hf_store.proofs.MetaCounts.{all_append, valid_fours, meta_is_counted}
+use Rattle.hf_store.proofs.Pushed.{counts-pushed}
 use Rattle.hf_store.proofs.Spots.{at_or, get_map, holds_here}
 use Rattle.hf_store.proofs.Swapped.{changed_is}
 
@@ -105,6 +106,11 @@ module _ (s : ItemStore) (k : ℕ) (x : Item) (here : slice_get s.items k ≡ So
 
   pub props-here : props_at k s.items ≡ x.props
   props-here = at_or (map (λ (j : Item). j.props) s.items) k x.props [] (get_map (λ (j : Item). j.props) s.items k x here)
+
+  pub length-with : (more : List Held) → length (props_with kept more k s) ≡ min kept (length x.props) + length more
+  length-with more =
+      length-append (take kept (props_at k s.items)) more
+      ∙ ap (λ hs. length (take kept hs) + length more) props-here ∙ ap (λ n. n + length more) (length-take kept x.props)
 
   module _ (more : List Held) where
     abbrev after : ItemStore
@@ -257,6 +263,10 @@ fits-told s fours size is =
     longer (inr short) long = absurd (omega (arith, (meta_is_counted s fours (inl short)).1, short, long))
 
 -- ---- counts
+
+pub counts-added : (s : ItemStore) (i : Item) → counts_of (added i s) ≡ plus (counts_of s) (counts_of_item i)
+unfolding counts_of
+counts-added s i = counts-pushed s.items (counts_of_groups s.groups) i
 
 module _ (s : ItemStore) (k : ℕ) (x : Item) (here : slice_get s.items k ≡ Some x) (hs : List Held) where
   part : plus (counts_of (with_items s (remove s.items k))) (counts_of_item x) ≡ counts_of s

@@ -137,12 +137,13 @@ impl<'a> Store<'a> {
         ensures { result ≡ nat_le (meta_len (with_props i (props_with kept more.now i self.now) self.now)) limits.META }
     {
         let load = self.load_with(i, kept, more);
+        let before = self.counts;
         let old = self.at(i).props.len();
         let new = kept.min(old) + more.len();
         let counts = Counts {
-            holders: self.counts.holders - bit(old > 0) + bit(new > 0),
-            picks: self.counts.picks - old as u64 + new as u64,
-            ..self.counts
+            holders: before.holders - bit(old > 0) + bit(new > 0),
+            picks: before.picks - old as u64 + new as u64,
+            ..before
         };
         fits_meta(&counts, load)
     }
