@@ -1,5 +1,5 @@
 -- The properties of a list of which some go by a test.
-use Rattle.std.proofs.Common.{◌≡◌, ℕ, ◌+◌, Bool, true, false, not, cond, filter, List, [], ◌∷◌, ◌++◌, refl, arith}
+use Rattle.std.proofs.Common.{◌≡◌, ◌+◌, Bool, true, false, not, cond, filter, List, [], ◌∷◌, refl, arith}
 use Rattle.std.proofs.lemmas.List.Sums.{sum_by-cons}
 use Rattle.hf_prop.specs.declared.held.Held.{Held}
 use Rattle.hf_prop.specs.declared.prop.Prop.{Prop}

@@ -1,8 +1,8 @@
 -- A store with other properties of an item, or with one more item: its table, its types and its counts.
-use Rattle.std.proofs.Common.{◌≡◌, ◌⊎◌, ℕ, zero, suc, ◌+◌, ◌-◌, ◌^◌, ◌<◌, ◌≤◌, List, [], ◌∷◌, ◌++◌, length, map, min, take, drop, set, get_or, leb, ltb, true, false, refl, sym, ap, ◌∙◌, subst, arith, Some, inl, inr}
+use Rattle.std.proofs.Common.{◌≡◌, ◌⊎◌, ℕ, zero, suc, ◌+◌, ◌-◌, ◌^◌, ◌<◌, ◌≤◌, List, [], ◌∷◌, ◌++◌, length, map, min, take, drop, leb, refl, sym, ap, ◌∙◌, subst, arith, Some, inl, inr}
 use Rattle.std.specs.Prelude.{slice_get}
 use Rattle.std.specs.List.{AllByRecursion, flat_map, remove}
-use Rattle.std.proofs.lemmas.Bool.{cases_lt, lt-leb, le-leb}
+use Rattle.std.proofs.lemmas.Bool.{cases_lt, lt-leb}
 use Rattle.std.proofs.lemmas.Grind.{flat_map-append}
 use Rattle.std.proofs.lemmas.List.{append-nil, drop_all, length-append, length-drop, length-take, map-append, take_all, take-append-drop}
 use Rattle.hf_base.specs.declared.limits.TheConstants as limits
@@ -17,21 +17,20 @@ use Rattle.hf_store.specs.Changes.{changed_at, holding, with_props, added}
 use Rattle.hf_store.specs.Counts.{Counts, plus, counts_of_item, counts_of_groups, counts_of, with_items}
 use Rattle.hf_store.specs.Layout.{has_props}
 use Rattle.hf_store.specs.Room.{props_at, props_with, Adds, AreFourHeld, AreFourRefs}
-use Rattle.hf_store.specs.Sizes.{AreFew, AreFours, counted_meta, AllRefs, AllProps, IsFourItem, IsFourList, IsFourProp}
+use Rattle.hf_store.specs.Sizes.{AreFours, counted_meta, IsFourItem, IsFourList}
 use Rattle.hf_store.specs.Kept.{IsKept}
 use Rattle.hf_store.specs.Seen.{item_of, store_of}
-use Rattle.hf_store.specs.Store.{Held, RefList, Item, ItemStore}
+use Rattle.hf_store.specs.Store.{Held, Item, ItemStore}
 use Rattle.hf_store.specs.Table.{props_of, table_of}
 use Rattle.hf_store.specs.Valid.{IsFour, IsGoodItem, meta_len, Valid}
 use Rattle.hf_store.specs.declared.item.Item.{Item as CodeItem}
 use Rattle.hf_store.specs.declared.store.Store.TheInside.{Inside}
 use Rattle.hf_store.specs.declared.store.room.Load.{Load}
-use Rattle.hf_store.proofs.Capped.{capped-small}
 use Rattle.hf_store.proofs.Counted.{item_changes, item_goes}
 use Rattle.hf_store.proofs.Few.{light_props}
 use Rattle.hf_store.proofs.FewCounts.{counts_few}
 use Rattle.hf_store.proofs.Loads.{less-front}
-use Rattle.hf_store.proofs.MetaCounts.{all_append, valid_fours, meta_is_counted}
+use Rattle.hf_store.proofs.MetaCounts.{all_append, meta_is_counted}
 use Rattle.hf_store.proofs.Pushed.{counts-pushed}
 use Rattle.hf_store.proofs.Spots.{at_or, get_map, holds_here}
 use Rattle.hf_store.proofs.Swapped.{changed_is}

@@ -15,6 +15,7 @@ mod measuring;
 pub mod plain;
 mod reason;
 mod removal;
+pub mod room_worked;
 mod size;
 mod store;
 mod tally;

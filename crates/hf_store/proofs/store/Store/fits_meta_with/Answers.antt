@@ -1,4 +1,4 @@
-use Rattle.std.proofs.Common.{◌≡◌, [], ◌+◌, ◌-◌, ◌^◌, ◌<◌, ◌∙◌, ltb, length, ap, sym, subst, arith}
+use Rattle.std.proofs.Common.{◌≡◌, [], ◌+◌, ◌-◌, ◌^◌, ◌<◌, ◌∙◌, ltb, length, ap, subst, arith}
 use Rattle.hf_box.specs.Written.{bit}
 use Rattle.hf_store.specs.Changes.{holding, with_props}
 use Rattle.hf_store.specs.Counts.{Counts, counts_of}

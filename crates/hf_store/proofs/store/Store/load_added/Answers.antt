@@ -1,4 +1,4 @@
-use Rattle.std.proofs.Common.{◌≡◌, ◌+◌, ◌∙◌, [], ap, sym, subst, arith}
+use Rattle.std.proofs.Common.{◌+◌, ◌∙◌, [], ap, sym, subst, arith}
 use Rattle.std.specs.List.{flat_map}
 use Rattle.hf_store.specs.Room.{Adds}
 use Rattle.hf_store.specs.Store.{ItemStore}

@@ -1,4 +1,4 @@
-use Rattle.std.proofs.Common.{◌≡◌, ◌+◌, ◌-◌, ◌∙◌, ap, sym, arith}
+use Rattle.std.proofs.Common.{◌+◌, ◌-◌, ◌∙◌, ap, arith}
 use Rattle.hf_store.proofs.Rooms.{loads-with}
 use Rattle.hf_store.proofs.store.Store.load_with.Goals as goal
 

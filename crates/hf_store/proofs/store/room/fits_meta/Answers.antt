@@ -1,4 +1,4 @@
-use Rattle.std.proofs.Common.{◌≡◌, ℕ, Bool, length, ltb, ap, ◌∙◌}
+use Rattle.std.proofs.Common.{◌≡◌, ℕ, Bool, ltb, ap, ◌∙◌}
 use Rattle.hf_store.specs.Capped.{capped}
 use Rattle.hf_store.specs.Counts.{Counts, counts_of}
 use Rattle.hf_store.specs.Layout.{is_wide}

@@ -1,6 +1,5 @@
-use Rattle.std.proofs.Common.{◌≡◌, ◌+◌, ◌++◌, ◌∙◌, ℕ, List, length, cond, take, sym, ap, subst, arith, refl}
+use Rattle.std.proofs.Common.{◌≡◌, ◌+◌, ◌∙◌, ℕ, List, length, cond, take, sym, ap, subst, arith, refl}
 use Rattle.std.proofs.lemmas.List.{take_all}
-use Rattle.hf_store.specs.Capped.{capped}
 use Rattle.hf_store.specs.Room.{Adds, AreFourHeld}
 use Rattle.hf_store.specs.Store.{Held}
 use Rattle.hf_store.specs.Valid.{IsFour}
