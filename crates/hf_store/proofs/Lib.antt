@@ -15,12 +15,15 @@ pub mod FieldLengths
 pub mod Finds
 pub mod Lengths
 pub mod Listed
+pub mod Loads
+pub mod Rooms
 pub mod Mapped
 pub mod References
 pub mod Measured
 pub mod MetaCounts
 pub mod Names
 pub mod Offsets
+pub mod Parted
 pub mod Passed
 pub mod Pushed
 pub mod Recounted
