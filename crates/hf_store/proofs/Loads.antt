@@ -1,7 +1,8 @@
 -- What a list of properties adds to the table of others.
-use Rattle.std.proofs.Common.{◌≡◌, ℕ, ◌+◌, ◌^◌, ◌<◌, Bool, true, false, not, ◌&&◌, cond, ltb, List, [], ◌∷◌, ◌++◌, length, take, get_or, refl, sym, ap, ◌∙◌, subst, arith, append_assoc}
+use Rattle.std.proofs.Common.{◌≡◌, ◌≢◌, ℕ, ◌+◌, ◌^◌, ◌<◌, Bool, true, false, not, ◌&&◌, cond, ltb, List, [], ◌∷◌, ◌++◌, length, take, get_or, refl, sym, ap, ◌∙◌, subst, arith, append_assoc}
 use Rattle.std.specs.Prelude.{◌==◌}
 use Rattle.std.specs.List.{list_any}
+use Rattle.std.proofs.lemmas.Bool.{eq-eqb, ne_eqb}
 use Rattle.std.proofs.lemmas.List.{append-nil, map-append, take_more}
 use Rattle.hf_prop.specs.declared.held.Held.{Held}
 use Rattle.hf_prop.specs.declared.prop.Prop.{Prop}
@@ -46,12 +47,24 @@ bytes_more-none others = omega (arith, ap (λ l. size_sum (table l)) (append-nil
 new-by : (n a b : ℕ) → (n + a == a) && (b == 0) ≡ not (ltb 0 (n + b))
 new-by n a b = grind arith
 
-pub new-told : (us : List Use) (left less earlier : List Prop) (p : Prop) → Tallies us (left ++ less)
+new-told : (us : List Use) (left less earlier : List Prop) (p : Prop) → Tallies us (left ++ less)
     → (holders_in us p == places_of p less) && (places_of p earlier == 0) ≡ not (list_any (same_prop p) (left ++ earlier))
 new-told us left less earlier p tallies =
     ap (λ n. (n == places_of p less) && (places_of p earlier == 0)) (tallies.each p ∙ places-append p left less)
     ∙ new-by (places_of p left) (places_of p less) (places_of p earlier)
     ∙ ap (λ n. not (ltb 0 n)) (sym (places-append p left earlier)) ∙ ap not (sym (placed p (left ++ earlier)))
+
+module _ (us : List Use) (left less earlier : List Prop) (p : Prop) (held going : ℕ) (tallies : Tallies us (left ++ less)) (held_is : held ≡ holders_in us p)
+    (going_is : going ≡ places_of p less) where
+  pub new_where : held ≡ going → (came : ℕ) → came ≡ places_of p earlier → (came == 0) ≡ not (list_any (same_prop p) (left ++ earlier))
+  new_where e came came_is =
+      ap (λ n. n == 0) came_is ∙ ap (λ b. b && (places_of p earlier == 0)) (sym (eq-eqb (holders_in us p) (places_of p less) (sym held_is ∙ e ∙ going_is)))
+      ∙ new-told us left less earlier p tallies
+
+  pub known_where : held ≢ going → (held == going) ≡ not (list_any (same_prop p) (left ++ earlier))
+  known_where differ =
+      ne_eqb held going differ ∙ ap (λ b. b && (places_of p earlier == 0)) (sym (ne_eqb (holders_in us p) (places_of p less) (λ e. differ (held_is ∙ e ∙ sym going_is))))
+      ∙ new-told us left less earlier p tallies
 
 -- ---- along a list
 

@@ -53,6 +53,7 @@ fn places(props: &[Held<'_>], prop: &Prop<'_>) -> usize
 }
 
 /// Whether a property is new behind these earlier ones, where some of those that are counted go.
+#[tactic(auto, using(crate::proofs::Loads::new_where, crate::proofs::Loads::known_where))]
 fn is_new<'a>(uses: &Uses<'a>, less: &[Held<'a>], earlier: &[Held<'a>], prop: &Prop<'a>) -> bool
     ensures { (left : List StatedProp) → Tallies uses.now (left ++ props_in less.now) → result ≡ not (list_any (same_prop prop.now) (left ++ props_in earlier.now)) }
 {
