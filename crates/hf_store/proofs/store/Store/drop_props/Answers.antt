@@ -16,12 +16,14 @@ pub take_kind-requires : goal.take_kind-requires
 take_kind-requires c =
     let item = c.index_mut-item.result.now in
     subst (λ hs. Holds c.self.inside.uses (of_kind c.args.kind hs)) (sym c.as_slice.ensures)
-    (holds-kind c.self.inside.uses c.args.kind item.props (taken_holds c.self.inside c.args.self.now c.self.view_is c.self.invariant c.args.i c.requires.place item c.index_mut-item.ensures.value))
+    (holds-kind c.self.inside.uses c.args.kind item.props
+    (taken_holds c.self.inside c.args.self.now c.self.view_is c.self.invariant c.args.i c.requires.place item c.index_mut-item.ensures.value))
 
 pub minus-left-requires : goal.minus-left-requires
 minus-left-requires c =
     subst (HasCounts c.self.inside.counts) (sym c.count_item.ensures)
-    (taken_part c.self.inside c.args.self.now c.self.view_is c.self.invariant c.args.i c.requires.place c.index_mut-item.result.now c.index_mut-item.ensures.value)
+    (taken_part c.self.inside c.args.self.now c.self.view_is c.self.invariant c.args.i c.requires.place c.index_mut-item.result.now
+    c.index_mut-item.ensures.value)
 
 abbrev left_item : goal.After-self-2-1 → CodeItem
 left_item c = record c.index_mut-item.result.now { props = c.retain.new.self }
@@ -32,13 +34,18 @@ dropped : (c : goal.After-self-2-1)
 dropped c =
     let item = c.index_mut-item.result.now in
     let us = c.self.inside.uses in
-    let retained : c.retain.new.self ≡ without_kind c.args.kind item.props = filter_same _ (λ (h : Held). not (is_of c.args.kind h)) _ (λ h b f k. search rules) _ _ c.retain.ensures in
-    let down : Gains c.take_kind.new.self (of_kind c.args.kind item.props) us = subst (λ hs. Gains c.take_kind.new.self (of_kind c.args.kind hs) us) c.as_slice.ensures c.take_kind.ensures in
+    let retained : c.retain.new.self ≡ without_kind c.args.kind item.props =
+    filter_same _ (λ (h : Held). not (is_of c.args.kind h)) _ (λ h b f k. search rules) _ _ c.retain.ensures in
+    let down : Gains c.take_kind.new.self (of_kind c.args.kind item.props) us =
+    subst (λ hs. Gains c.take_kind.new.self (of_kind c.args.kind hs) us) c.as_slice.ensures c.take_kind.ensures in
     let trade : Trades us (props_in item.props) (props_in c.retain.new.self) c.take_kind.new.self =
-    subst (λ hs. Trades us (props_in item.props) (props_in hs) c.take_kind.new.self) (sym retained) (trades-kind c.self.inside.uses c.take_kind.new.self c.args.kind item.props down)
+    subst (λ hs. Trades us (props_in item.props) (props_in hs) c.take_kind.new.self) (sym retained)
+    (trades-kind c.self.inside.uses c.take_kind.new.self c.args.kind item.props down)
     in
-    swapped c.self.inside c.args.self.now c.self.view_is c.self.invariant c.args.i c.requires.place item c.index_mut-item.ensures.value (lacking c.args.kind) (left_item c)
-    (ap (λ hs. record (item_of item) { props = hs }) retained) c.requires.valid c.take_kind.new.self trade c.minus-left.result c.count_item.result c.count_item-2.result c.plus-self-inside.result
+    swapped c.self.inside c.args.self.now c.self.view_is c.self.invariant c.args.i c.requires.place item c.index_mut-item.ensures.value
+    (lacking c.args.kind) (left_item c)
+    (ap (λ hs. record (item_of item) { props = hs }) retained) c.requires.valid c.take_kind.new.self trade c.minus-left.result c.count_item.result
+    c.count_item-2.result c.plus-self-inside.result
     c.count_item.ensures c.minus-left.ensures c.count_item-2.ensures c.plus-self-inside.ensures
 
 pub invariant_of-self : goal.invariant_of-self
