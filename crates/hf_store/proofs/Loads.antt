@@ -1,5 +1,6 @@
 -- What a list of properties adds to the table of others.
-use Rattle.std.proofs.Common.{◌≡◌, ◌≢◌, ℕ, ◌+◌, ◌^◌, ◌<◌, Bool, true, false, not, ◌&&◌, cond, ltb, List, [], ◌∷◌, ◌++◌, length, take, get_or, refl, sym, ap, ◌∙◌, subst, arith, append_assoc}
+use Rattle.std.proofs.Common.{◌≡◌, ◌≢◌, ℕ, ◌+◌, ◌^◌, ◌<◌, Bool, true, false, not, ◌&&◌, cond, ltb, List, [], ◌∷◌, ◌++◌, length, take, get_or, refl, sym, ap}
+use Rattle.std.proofs.Common.{◌∙◌, subst, arith, append_assoc}
 use Rattle.std.specs.Prelude.{◌==◌}
 use Rattle.std.specs.List.{list_any}
 use Rattle.std.proofs.lemmas.Bool.{eq-eqb, ne_eqb}
@@ -21,20 +22,24 @@ pub less-front : (others ps : List Prop) → IsLess others (others ++ ps)
 less-front others ps = simp append-nil at (without_some others ps [])
 
 -- one property more
-length-next : (others ps : List Prop) (p : Prop) → length (table (others ++ (ps ++ p ∷ []))) ≡ length (table (others ++ ps)) + cond (list_any (same_prop p) (others ++ ps)) 0 1
+length-next : (others ps : List Prop) (p : Prop) → length (table (others ++ (ps ++ p ∷ []))) ≡ length (table (others ++ ps)) + cond
+    (list_any (same_prop p) (others ++ ps)) 0 1
 length-next others ps p =
     ap (λ l. length (table l)) (sym (append_assoc others ps (p ∷ []))) ∙ table-length-more p (others ++ ps) []
     ∙ ap (λ l. length (table l) + cond (list_any (same_prop p) l) 0 1) (append-nil (others ++ ps))
 
-sizes-next : (others ps : List Prop) (p : Prop) → size_sum (table (others ++ (ps ++ p ∷ []))) ≡ size_sum (table (others ++ ps)) + cond (list_any (same_prop p) (others ++ ps)) 0 (prop_size p)
+sizes-next : (others ps : List Prop) (p : Prop) → size_sum (table (others ++ (ps ++ p ∷ []))) ≡ size_sum (table (others ++ ps)) + cond
+    (list_any (same_prop p) (others ++ ps)) 0 (prop_size p)
 sizes-next others ps p =
     ap (λ l. size_sum (table l)) (sym (append_assoc others ps (p ∷ []))) ∙ table-sizes-more p (others ++ ps) []
     ∙ ap (λ l. size_sum (table l) + cond (list_any (same_prop p) l) 0 (prop_size p)) (append-nil (others ++ ps))
 
-pub kinds_more-next : (others ps : List Prop) (p : Prop) → kinds_more others (ps ++ p ∷ []) ≡ kinds_more others ps + cond (list_any (same_prop p) (others ++ ps)) 0 1
+pub kinds_more-next : (others ps : List Prop) (p : Prop)
+    → kinds_more others (ps ++ p ∷ []) ≡ kinds_more others ps + cond (list_any (same_prop p) (others ++ ps)) 0 1
 kinds_more-next others ps p = omega (arith, length-next others ps p, (less-front others ps).kinds)
 
-pub bytes_more-next : (others ps : List Prop) (p : Prop) → bytes_more others (ps ++ p ∷ []) ≡ bytes_more others ps + cond (list_any (same_prop p) (others ++ ps)) 0 (prop_size p)
+pub bytes_more-next : (others ps : List Prop) (p : Prop)
+    → bytes_more others (ps ++ p ∷ []) ≡ bytes_more others ps + cond (list_any (same_prop p) (others ++ ps)) 0 (prop_size p)
 bytes_more-next others ps p = omega (arith, sizes-next others ps p, (less-front others ps).bytes)
 
 pub kinds_more-none : (others : List Prop) → kinds_more others [] ≡ 0
@@ -63,7 +68,8 @@ module _ (us : List Use) (left less earlier : List Prop) (p : Prop) (held going 
 
   pub known_where : held ≢ going → (held == going) ≡ not (list_any (same_prop p) (left ++ earlier))
   known_where differ =
-      ne_eqb held going differ ∙ ap (λ b. b && (places_of p earlier == 0)) (sym (ne_eqb (holders_in us p) (places_of p less) (λ e. differ (held_is ∙ e ∙ sym going_is))))
+      ne_eqb held going differ ∙ ap (λ b. b && (places_of p earlier == 0))
+      (sym (ne_eqb (holders_in us p) (places_of p less) (λ e. differ (held_is ∙ e ∙ sym going_is))))
       ∙ new-told us left less earlier p tallies
 
 -- ---- along a list
@@ -93,7 +99,8 @@ module _ (hs : List Held) (k : ℕ) (h : Held) (within : k < length hs) (here : 
     by false n = refl
 
     -- a property that is new adds itself
-    pub adds-next : new.kinds ≡ old.kinds + cond is_new 1 0 → (old.bytes < 2 ^ 64 → new.bytes ≡ capped (old.bytes + cond is_new (prop_size h.prop) 0)) → Adds us less (take (k + 1) hs) new
+    pub adds-next : new.kinds ≡ old.kinds + cond is_new 1 0 → (old.bytes < 2 ^ 64 → new.bytes ≡ capped (old.bytes + cond is_new (prop_size h.prop) 0))
+        → Adds us less (take (k + 1) hs) new
     adds-next e f = record {
       kinds = λ left t.
           let more = kinds_more-next left (props_in (take k hs)) h.prop in

@@ -1,5 +1,6 @@
 -- A store with other properties of an item, or with one more item: its table, its types and its counts.
-use Rattle.std.proofs.Common.{◌≡◌, ◌⊎◌, ℕ, zero, suc, ◌+◌, ◌-◌, ◌^◌, ◌<◌, ◌≤◌, List, [], ◌∷◌, ◌++◌, length, map, min, take, drop, leb, refl, sym, ap, ◌∙◌, subst, arith, Some, inl, inr}
+use Rattle.std.proofs.Common.{◌≡◌, ◌⊎◌, ℕ, zero, suc, ◌+◌, ◌-◌, ◌^◌, ◌<◌, ◌≤◌, List, [], ◌∷◌, ◌++◌, length, map, min, take, drop, leb, refl, sym, ap, ◌∙◌}
+use Rattle.std.proofs.Common.{subst, arith, Some, inl, inr}
 use Rattle.std.specs.Prelude.{slice_get}
 use Rattle.std.specs.List.{AllByRecursion, flat_map, remove}
 use Rattle.std.proofs.lemmas.Bool.{cases_lt, lt-leb}
@@ -121,7 +122,8 @@ module _ (s : ItemStore) (k : ℕ) (x : Item) (here : slice_get s.items k ≡ So
         let hs = take kept x.props ++ more in
         let told : places_of q (flat_map props_of after.items) ≡ places_of q (flat_map props_of (changed_at (holding hs) k s.items)) =
         ap (λ gs. places_of q (flat_map props_of (changed_at (holding (take kept gs ++ more)) k s.items))) props-here in
-        let parts = ap (places_of q) (map-append (λ (h : Held). h.prop) (take kept x.props) more) ∙ places-append q (props_in (take kept x.props)) (props_in more) in
+        let parts = ap (places_of q) (map-append (λ (h : Held). h.prop) (take kept x.props) more)
+        ∙ places-append q (props_in (take kept x.props)) (props_in more) in
         omega (
           arith,
           told,
@@ -178,11 +180,13 @@ module _ (s : ItemStore) (k : ℕ) (x : Item) (here : slice_get s.items k ≡ So
 
 pub loads-with : (inside : Inside) (s : ItemStore) → store_of inside ≡ s → IsKept inside → (i : ℕ) (x : CodeItem) → slice_get s.items i ≡ Some (item_of x)
     → (kept m : ℕ) (hs more : List Held) → hs ≡ x.props → m ≡ min kept (length hs) → (gone come : Load)
-    → Adds inside.uses (take (length hs - m) (drop m hs)) (take (length hs - m) (drop m hs)) gone → Adds inside.uses (take (length hs - m) (drop m hs)) more come
+    → Adds inside.uses (take (length hs - m) (drop m hs)) (take (length hs - m) (drop m hs)) gone
+    → Adds inside.uses (take (length hs - m) (drop m hs)) more come
     → Loads s (with_props i (props_with kept more i s) s) gone come
 loads-with inside s view is_kept i x here kept m hs more same is gone come out in_place =
     let tallies = subst (λ (t : ItemStore). Tallies inside.uses (flat_map props_of t.items)) view is_kept.tallies in
-    loads s i (item_of x) here kept more inside.uses tallies (take (length hs - m) (drop m hs)) (slice-rest kept m hs is ∙ ap (drop kept) same) gone come out in_place
+    loads s i (item_of x) here kept more inside.uses tallies (take (length hs - m) (drop m hs)) (slice-rest kept m hs is ∙ ap (drop kept) same) gone come
+    out in_place
     (subst Valid view is_kept.valid)
 
 -- one more item
@@ -292,16 +296,26 @@ module _ (s : ItemStore) (k : ℕ) (x : Item) (here : slice_get s.items k ≡ So
   counts-with valid holders picks e f few_picks few_holders =
       let few = counts_few s valid in
       λ j. record {
-        items = same (counts_of s).items (counts_of (with_props k hs s)).items (counts_of_item x).items (ap (λ (c : Counts). c.items) law) (omega (arith, few.items)) j;
-        located = same (counts_of s).located (counts_of (with_props k hs s)).located (counts_of_item x).located (ap (λ (c : Counts). c.located) law) (omega (arith, few.located)) j;
-        wide = same (counts_of s).wide (counts_of (with_props k hs s)).wide (counts_of_item x).wide (ap (λ (c : Counts). c.wide) law) (omega (arith, few.wide)) j;
-        strings = same (counts_of s).strings (counts_of (with_props k hs s)).strings (counts_of_item x).strings (ap (λ (c : Counts). c.strings) law) (omega (arith, few.strings)) j;
-        links = same (counts_of s).links (counts_of (with_props k hs s)).links (counts_of_item x).links (ap (λ (c : Counts). c.links) law) (omega (arith, few.links)) j;
-        targets = same (counts_of s).targets (counts_of (with_props k hs s)).targets (counts_of_item x).targets (ap (λ (c : Counts). c.targets) law) (omega (arith, few.targets)) j;
-        holders = other (counts_of s).holders (counts_of (with_props k hs s)).holders (counts_of_item x).holders (bit (has_props (holding hs x))) holders (ap (λ (c : Counts). c.holders) law) holders-there e few_holders j;
-        picks = other (counts_of s).picks (counts_of (with_props k hs s)).picks (counts_of_item x).picks (length hs) picks (ap (λ (c : Counts). c.picks) law) picks-there f few_picks j;
-        idat = same (counts_of s).idat (counts_of (with_props k hs s)).idat (counts_of_item x).idat (ap (λ (c : Counts). c.idat) law) (omega (arith, few.idat)) j;
-        mdat = same (counts_of s).mdat (counts_of (with_props k hs s)).mdat (counts_of_item x).mdat (ap (λ (c : Counts). c.mdat) law) (omega (arith, few.body)) j;
+        items = same (counts_of s).items (counts_of (with_props k hs s)).items (counts_of_item x).items (ap (λ (c : Counts). c.items) law)
+            (omega (arith, few.items)) j;
+        located = same (counts_of s).located (counts_of (with_props k hs s)).located (counts_of_item x).located (ap (λ (c : Counts). c.located) law)
+            (omega (arith, few.located)) j;
+        wide = same (counts_of s).wide (counts_of (with_props k hs s)).wide (counts_of_item x).wide (ap (λ (c : Counts). c.wide) law)
+            (omega (arith, few.wide)) j;
+        strings = same (counts_of s).strings (counts_of (with_props k hs s)).strings (counts_of_item x).strings (ap (λ (c : Counts). c.strings) law)
+            (omega (arith, few.strings)) j;
+        links = same (counts_of s).links (counts_of (with_props k hs s)).links (counts_of_item x).links (ap (λ (c : Counts). c.links) law)
+            (omega (arith, few.links)) j;
+        targets = same (counts_of s).targets (counts_of (with_props k hs s)).targets (counts_of_item x).targets (ap (λ (c : Counts). c.targets) law)
+            (omega (arith, few.targets)) j;
+        holders = other (counts_of s).holders (counts_of (with_props k hs s)).holders (counts_of_item x).holders (bit (has_props (holding hs x))) holders
+            (ap (λ (c : Counts). c.holders) law) holders-there e few_holders j;
+        picks = other (counts_of s).picks (counts_of (with_props k hs s)).picks (counts_of_item x).picks (length hs) picks
+            (ap (λ (c : Counts). c.picks) law) picks-there f few_picks j;
+        idat = same (counts_of s).idat (counts_of (with_props k hs s)).idat (counts_of_item x).idat (ap (λ (c : Counts). c.idat) law)
+            (omega (arith, few.idat)) j;
+        mdat = same (counts_of s).mdat (counts_of (with_props k hs s)).mdat (counts_of_item x).mdat (ap (λ (c : Counts). c.mdat) law)
+            (omega (arith, few.body)) j;
         groups = same (counts_of s).groups (counts_of (with_props k hs s)).groups 0 (ap (λ (c : Counts). c.groups) law) (omega (arith, few.groups)) j;
         entities = same (counts_of s).entities (counts_of (with_props k hs s)).entities 0 (ap (λ (c : Counts). c.entities) law) (omega (arith, few.entities)) j;
         tails = same (counts_of s).tails (counts_of (with_props k hs s)).tails 0 (ap (λ (c : Counts). c.tails) law) (omega (arith, few.tails)) j;

@@ -56,6 +56,13 @@ pub short_all : (all is : List Item) → AllByRecursion (IsGoodItem all) is → 
 short_all all [] good = tt
 short_all all (i ∷ is) good = (omega (arith, good.0.props, length-map i.props (λ (h : Held). h.prop)), short_all all is good.1)
 
+-- a store that is the stated one, is valid, and has these uses and counts
+pub record IsSwapped (now stated : ItemStore) (us : List Use) (counts : Counts) : Type 0 where
+  pub out : now ≡ stated
+  pub valid : Valid now
+  pub tallies : Tallies us (flat_map props_of now.items)
+  pub counted : counts ≡ counts_of now
+
 module _ (inside : Inside) (s : ItemStore) (view : store_of inside ≡ s) (kept : IsKept inside) (k : ℕ) (place : k < length s.items) (item : CodeItem) (value : item ≡ get_or inside.items.items k item) where
   here : slice_get (items_of inside.items.items) k ≡ Some (item_of item)
   here = taken_here inside s view kept k place item value
@@ -82,6 +89,17 @@ module _ (inside : Inside) (s : ItemStore) (view : store_of inside ≡ s) (kept 
       let whole : plus left x ≡ counts_of t = ap (plus left) (sym exact) ∙ sum ∙ kept.counted in
       let done : plus left y ≡ counts_of now = plus-cancel (plus left y) (counts_of now) x (plus-swap left y x ∙ ap (λ c. plus c y) whole ∙ sym law) in
       f ∙ ap (λ c. capped_counts (plus left c)) e ∙ plus-right left y ∙ ap capped_counts done ∙ few_capped (counts_of now) (counts_few now valid)
+
+  -- and so the store that has it is kept, where that is valid
+  pub swapped : (f : Item → Item) (new : CodeItem) → item_of new ≡ f (item_of item) → Valid (record s { items = changed_at f k s.items })
+      → (us : List Use) → Trades inside.uses (props_of (item_of item)) (props_of (item_of new)) us → (left part more all : Counts) → part ≡ capped_counts (counts_of_item (item_of item)) → plus left part ≡ inside.counts
+      → more ≡ capped_counts (counts_of_item (item_of new)) → all ≡ capped_counts (plus left more) → IsSwapped (record (store_of inside) { items = items_of (set inside.items.items k new) }) (record s { items = changed_at f k s.items }) us all
+  swapped f new is valid us trade left part more all e sum g h =
+      let made : List Item → ItemStore = λ is. record (store_of inside) { items = is } in
+      let out : made (items_of (set inside.items.items k new)) ≡ record s { items = changed_at f k s.items } =
+      ap made (changed_items f new is) ∙ ap (λ (t : ItemStore). record t { items = changed_at f k t.items }) view in
+      let now_valid = subst Valid (sym out) valid in
+      record { out = out; valid = now_valid; tallies = changed_tallies new us trade; counted = changed_counts new now_valid left part more all e sum g h }
 
   -- nothing changes where both count alike
   pub same_counts : (new : CodeItem) → counts_of_item (item_of new) ≡ counts_of_item (item_of item) → inside.counts ≡ counts_of (with_items (store_of inside) (items_of (set inside.items.items k new)))

@@ -3,7 +3,7 @@
 ghost use Rattle.std.specs.Prelude.{◌≡◌, [], ◌∷◌};
 ghost use Rattle.hf_box.specs.Literals.{four};
 ghost use Rattle.hf_prop.specs.declared.held.Held.{Held};
-ghost use Rattle.hf_store.specs.Changes.{without_optionals};
+ghost use Rattle.hf_store.specs.Changes.{lacking_optional, without_optionals};
 ghost use Rattle.hf_store.specs.Room.{bytes_more, kinds_more, props_with};
 ghost use Rattle.hf_store.specs.Store.{Item, ItemStore};
 ghost use Rattle.hf_table.specs.Worked.{axis, half, needed, other, quarter};
@@ -25,8 +25,9 @@ pub fn new_properties_are_added()
     ensures no_bytes { bytes_more (half ∷ quarter ∷ []) (quarter ∷ half ∷ []) ≡ 0 }
 {}
 
-/// Of one item those properties go that have the type and are not essential.
+/// Those properties go that have the type and are not essential, and of one item alone.
 pub fn optional_properties_go()
-    ensures go { (s : ItemStore) (i j : Item) → without_optionals 0 (four "irot") (record s { items = record i { props = needed half ∷ other axis ∷ other quarter ∷ [] } ∷ record j { props = other half ∷ [] } ∷ [] }) ≡ record s { items = record i { props = needed half ∷ other axis ∷ [] } ∷ record j { props = other half ∷ [] } ∷ [] } }
-    ensures stay { (s : ItemStore) (i j : Item) → without_optionals 1 (four "imir") (record s { items = record i { props = other axis ∷ [] } ∷ record j { props = needed axis ∷ other half ∷ [] } ∷ [] }) ≡ record s { items = record i { props = other axis ∷ [] } ∷ record j { props = needed axis ∷ other half ∷ [] } ∷ [] } }
+    ensures go { (i : Item) → lacking_optional (four "irot") (record i { props = needed half ∷ other axis ∷ other quarter ∷ [] }) ≡ record i { props = needed half ∷ other axis ∷ [] } }
+    ensures stay { (i : Item) → lacking_optional (four "imir") (record i { props = needed axis ∷ other half ∷ [] }) ≡ record i { props = needed axis ∷ other half ∷ [] } }
+    ensures second { (s : ItemStore) (i j k : Item) → without_optionals 1 (four "irot") (record s { items = i ∷ j ∷ k ∷ [] }) ≡ record s { items = i ∷ lacking_optional (four "irot") j ∷ k ∷ [] } }
 {}

@@ -122,8 +122,8 @@ impl<'a> Store<'a> {
     }
 
     /// How many distinct properties there would be, if the item at a place, counted from 0 by rising id,
-    /// had these properties behind its first `kept` ones in place of the others. Takes time for each
-    /// property of the item and each of these with each other, and for no other item.
+    /// had these properties behind its first `kept` ones in place of the others. No other item is looked
+    /// at.
     pub fn kinds_with(&self, i: usize, kept: usize, more: &[Held<'a>]) -> usize
         requires { i < length self.now.items }
         ensures { result ≡ length (table_of (with_props i (props_with kept more.now i self.now) self.now)) }

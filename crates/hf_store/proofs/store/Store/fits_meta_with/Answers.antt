@@ -61,7 +61,8 @@ returns c =
     let hs = props_with c.args.kept c.args.more.now i s in
     let valid = subst Valid c.self.view_is c.self.invariant.valid in
     let counted : c.self.inside.counts ≡ counts_of s = c.self.invariant.counted ∙ ap counts_of c.self.view_is in
-    let new : c.min.result + length c.args.more.now ≡ length hs = omega (arith, length-with s i x here c.args.kept c.args.more.now, c.min.ensures, c.len-old.ensures) in
+    let new : c.min.result + length c.args.more.now ≡ length hs =
+    omega (arith, length-with s i x here c.args.kept c.args.more.now, c.min.ensures, c.len-old.ensures) in
     let holders = c.self.inside.counts.holders - c.bit.result + c.bit-2.result in
     let picks = c.self.inside.counts.picks - c.len-old.result + (c.min.result + length c.args.more.now) in
     let small : picks < 2 ^ 64 =
@@ -76,9 +77,22 @@ returns c =
     )
     in
     let few : holders < 2 ^ 64 =
-    omega (arith, (counts_few s valid).holders, bit-le (ltb 0 (c.min.result + length c.args.more.now)), c.bit-2.ensures, ap (λ (k : Counts). k.holders) counted) in
+    omega (
+      arith,
+      (counts_few s valid).holders,
+      bit-le (ltb 0 (c.min.result + length c.args.more.now)),
+      c.bit-2.ensures,
+      ap (λ (k : Counts). k.holders) counted,
+    ) in
     let marks : holders ≡ (counts_of s).holders - bit (has_props x) + bit (has_props (holding hs x)) =
-    omega (arith, c.bit.ensures, c.bit-2.ensures, ap (λ n. bit (ltb 0 n)) c.len-old.ensures, ap (λ n. bit (ltb 0 n)) new, ap (λ (k : Counts). k.holders) counted) in
+    omega (
+      arith,
+      c.bit.ensures,
+      c.bit-2.ensures,
+      ap (λ n. bit (ltb 0 n)) c.len-old.ensures,
+      ap (λ n. bit (ltb 0 n)) new,
+      ap (λ (k : Counts). k.holders) counted,
+    ) in
     let numbers : picks ≡ (counts_of s).picks - length x.props + length hs = omega (arith, new, c.len-old.ensures, ap (λ (k : Counts). k.picks) counted) in
     let counts =
     ap (λ (k : Counts). record k { holders = holders; picks = picks }) counted

@@ -40,7 +40,8 @@ loop-k-preserved c =
     ]
 
 pub returns-clause-adds : goal.returns-clause-adds
-returns-clause-adds c = subst (λ hs. Adds c.args.uses.now c.args.less.now hs c.loop-k.load) (take_all c.loop-k.k c.args.more.now c.loop-k-test.false) c.loop-k.invariant.adds
+returns-clause-adds c = subst (λ hs. Adds c.args.uses.now c.args.less.now hs c.loop-k.load) (take_all c.loop-k.k c.args.more.now c.loop-k-test.false)
+    c.loop-k.invariant.adds
 
 pub returns-clause-fours : goal.returns-clause-fours
 returns-clause-fours c = subst AreFourHeld (take_all c.loop-k.k c.args.more.now c.loop-k-test.false) c.loop-k.invariant.fours
