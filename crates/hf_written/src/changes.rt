@@ -10,7 +10,7 @@ ghost use Rattle.hf_worked.specs.WorkedStores.{four_by_four, heic as stated_heic
 
 use crate::plain::HEIC;
 use hf_base::kinds::{AUXL, CDSC, EXIF, HVC1, IROT, ISPE};
-use hf_base::{Ids, NoMemory, OpenFault, Series};
+use hf_base::{FourCc, Ids, NoMemory, OpenFault, Series};
 use hf_head::Brands;
 use hf_links::Group;
 use hf_pieces::Pieces;
