@@ -187,22 +187,14 @@ pub fn pictures_are_cropped()
     ensures corner { why (holding (four_by_two ∷ turn ∷ [])) (Crop 1 1 3 1 1) ≡ None }
     ensures hidden_minor { why described_pair (Crop 2 0 0 1 1) ≡ None }
     ensures grid { why photograph (Crop 49 2032 2024 2000 1000) ≡ None }
-    ensures top_left {
-        step photograph (Crop 49 0 0 2000 1000)
-            ≡ photograph_with (clap "000007d0 00000001 000003e8 00000001 fffff810 00000002 fffff818 00000002")
-    }
-    ensures middle {
-        step described_pair (Crop 2 1 1 2 3)
-            ≡ pair_with (four_by_four ∷ clap "00000002 00000001 00000003 00000001 00000000 00000002 00000001 00000002" ∷ [])
-    }
-    ensures turned {
-        step (holding (four_by_two ∷ turn ∷ [])) (Crop 1 1 0 1 3)
-            ≡ holding (four_by_two ∷ turn ∷ clap "00000001 00000001 00000003 00000001 00000001 00000002 ffffffff 00000002" ∷ [])
-    }
-    ensures cropped_again {
-        step (holding (four_by_four ∷ three_by_five ∷ [])) (Crop 1 0 0 1 5)
-            ≡ holding (four_by_four ∷ three_by_five ∷ clap "00000001 00000001 00000005 00000001 fffffffe 00000002 00000000 00000002" ∷ [])
-    }
+    ensures top_left { step photograph (Crop 49 0 0 2000 1000)
+        ≡ photograph_with (clap "000007d0 00000001 000003e8 00000001 fffff810 00000002 fffff818 00000002") }
+    ensures middle { step described_pair (Crop 2 1 1 2 3)
+        ≡ pair_with (four_by_four ∷ clap "00000002 00000001 00000003 00000001 00000000 00000002 00000001 00000002" ∷ []) }
+    ensures turned { step (holding (four_by_two ∷ turn ∷ [])) (Crop 1 1 0 1 3)
+        ≡ holding (four_by_two ∷ turn ∷ clap "00000001 00000001 00000003 00000001 00000001 00000002 ffffffff 00000002" ∷ []) }
+    ensures cropped_again { step (holding (four_by_four ∷ three_by_five ∷ [])) (Crop 1 0 0 1 5)
+        ≡ holding (four_by_four ∷ three_by_five ∷ clap "00000001 00000001 00000005 00000001 fffffffe 00000002 00000000 00000002" ∷ []) }
 {}
 
 /// The next id is one more than the greatest of an item or a group, if one is left.
