@@ -10,6 +10,7 @@ ghost use Rattle.hf_edit.specs.Additions.{next_id_of};
 ghost use Rattle.hf_edit.specs.Edits.{AddExif, AddXmp, Crop, Drop, Hide, Mirror, Primary, Remove, Rotate, Show, Thumb, step, why};
 ghost use Rattle.hf_edit.specs.Pictures.{picture_size_of};
 ghost use Rattle.hf_edit.specs.Worked.{clap, derived, four_by_two, greatest_beside, group_of_id, hidden_metadata, hidden_second, holding, imir, irot, ispe, metadata_thumbnail, optional_turn, pair_unsized, pair_with, pair_with_exif, pair_with_xmp, photograph_with, picture, second_as_thumbnail, second_primary, second_with_thumbnail, three_by_five, turn};
+ghost use Rattle.hf_edit.specs.WorkedLimits.{BodyFits, BodyIsFull, IdsBeforeBody, ItemsAreFull, ItemsFit, KindsAreFull, KindsBeforeItems, KindsFit};
 
 /// An item goes unless it is not there, is the primary, or is needed by another one; the first of
 /// these reasons is given.
@@ -254,4 +255,17 @@ pub fn thumbnails_are_added()
     ensures added { step one_picture (Thumb 1 one_picture) ≡ picture_with_thumbnail }
     ensures primary_alone { step one_picture (Thumb 1 hidden_second) ≡ second_as_thumbnail }
     ensures second { step two_pictures (Thumb 2 one_picture) ≡ second_with_thumbnail }
+{}
+
+/// Where the last of the distinct properties, of the items or of their bytes still fits, no reason is told of their
+/// number; where one more comes, the reason is told, before those that stand after it.
+pub fn limits_are_told()
+    ensures kinds { KindsFit }
+    ensures too_many_kinds { KindsAreFull }
+    ensures items { ItemsFit }
+    ensures too_many_items { ItemsAreFull }
+    ensures kinds_before_items { KindsBeforeItems }
+    ensures ids_before_body { IdsBeforeBody }
+    ensures body { BodyFits }
+    ensures too_long_body { BodyIsFull }
 {}
