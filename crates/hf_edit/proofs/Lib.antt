@@ -4,6 +4,7 @@ pub mod Arms
 pub mod Chains
 pub mod Coming
 pub mod Free
+pub mod Fulls
 pub mod Goods
 pub mod Members
 pub mod Named

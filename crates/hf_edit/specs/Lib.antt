@@ -6,3 +6,4 @@ pub mod PictureSize
 pub mod Pictures
 pub mod Seen
 pub mod Worked
+pub mod WorkedLimits

@@ -1,0 +1,15 @@
+use Rattle.hf_edit.proofs.Fulls.{body_fits, body_is_full, ids_before_body, items_are_full, items_fit, kinds_are_full, kinds_before_items, kinds_fit}
+use Rattle.hf_edit.proofs.worked.limits_are_told.Goals as goal
+
+pub returns : goal.returns
+returns c =
+    record {
+      kinds = kinds_fit;
+      too_many_kinds = kinds_are_full;
+      items = items_fit;
+      too_many_items = items_are_full;
+      kinds_before_items = kinds_before_items;
+      ids_before_body = ids_before_body;
+      body = body_fits;
+      too_long_body = body_is_full;
+    }
