@@ -1,5 +1,5 @@
 -- Words that begin as others do.
-use Rattle.std.proofs.Common.{◌≡◌, ◌≤◌, ◌+◌, ℕ, suc, List, [], ◌∷◌, ◌++◌, length, take, drop, refl, sym, ap, ◌∙◌, arith, length-append}
+use Rattle.std.proofs.Common.{◌≡◌, ◌≤◌, ◌+◌, ℕ, suc, List, [], ◌∷◌, ◌++◌, length, take, drop, zero, refl, sym, ap, subst, ◌∙◌, arith, length-append}
 use Rattle.std.proofs.lemmas.List.{take_at, take-take, take-append-le, take-append-drop, append_cancel_left}
 use Rattle.std.proofs.Math.Seq.{take-append-add}
 
@@ -63,7 +63,10 @@ Fronts-first f = let front = f.same in cc
 pub Fronts-behind : {j : ℕ} {word first : List ℕ} {words others : List (List ℕ)} → Fronts (suc j) (word ∷ words) (first ∷ others) → Fronts j words others
 Fronts-behind f = record { same = let front = f.same in cc; within = omega (arith, f.within); short = omega (arith, f.short) }
 
-pub Fronts-second : (words others : List (List ℕ)) → Fronts 2 words others → Fronts 1 (drop 1 words) (drop 1 others)
-Fronts-second [] others f = absurd (omega (arith, f.within))
-Fronts-second (word ∷ words) [] f = absurd (omega (arith, f.short))
-Fronts-second (word ∷ words) (first ∷ others) f = Fronts-behind f
+pub Fronts-drop : (n k : ℕ) (words others : List (List ℕ)) → Fronts (n + k) words others → Fronts k (drop n words) (drop n others)
+Fronts-drop zero k words others f = let same : 0 + k ≡ k = omega arith in subst (λ (n : ℕ). Fronts n words others) same f
+Fronts-drop (suc n) k [] others f = absurd (omega (arith, f.within))
+Fronts-drop (suc n) k (word ∷ words) [] f = absurd (omega (arith, f.short))
+Fronts-drop (suc n) k (word ∷ words) (first ∷ others) f =
+    let one : suc n + k ≡ suc (n + k) = omega arith in
+    Fronts-drop n k words others (Fronts-behind (subst (λ (n : ℕ). Fronts n (word ∷ words) (first ∷ others)) one f))

@@ -1,18 +1,18 @@
 -- The words that stand behind a name.
-use Rattle.std.proofs.Common.{◌≡◌, ◌≢◌, ◌<◌, ◌≤◌, ◌+◌, ◌^◌, ℕ, zero, suc, Bool, true, false, List, [], ◌∷◌, ◌++◌, length, drop, take, map, get_or, refl, sym, ap, subst, ◌∙◌, arith, length-append}
-use Rattle.std.specs.Prelude.{◌==◌, ◌&&◌, nat_le, nat_lt, slice_get, Option, Some, None, Result, Ok, Err, codes, decimal, if◌then◌else◌}
+use Rattle.std.proofs.Common.{◌≡◌, ◌≢◌, ◌<◌, ◌≤◌, ◌+◌, ◌^◌, ℕ, zero, suc, Bool, true, false, List, [], ◌∷◌, ◌++◌, length, drop, take, map, get_or, refl, sym, ap, subst, ◌∙◌, arith, length-append, length-drop}
+use Rattle.std.specs.Prelude.{◌==◌, ◌&&◌, nat_le, nat_lt, slice_get, Option, Some, None, option_map, Result, Ok, Err, codes, decimal, if◌then◌else◌}
 use Rattle.std.specs.Option.{ok_or, option_and_then}
 use Rattle.std.specs.Str.{bytes_eq}
 use Rattle.std.specs.Str.Parse.{digits_value, ParsesUnsigned}
-use Rattle.std.proofs.lemmas.Bool.{eqb-true, eq-eqb, ne_eqb, ltb-true, lt-ltb, leb-true, le-leb, and_parts, and_from}
+use Rattle.std.proofs.lemmas.Bool.{eqb-true, eq-eqb, ne_eqb, ltb-true, lt-ltb, le-ltb, leb-true, le-leb, and_parts, and_from}
 use Rattle.std.proofs.lemmas.Fmt.{decimal_is_IsNumeral, parse-decimal}
-use Rattle.std.proofs.lemmas.Option.{slice_get_past, slice_get_within}
+use Rattle.std.proofs.lemmas.Option.{slice_get-get_or, slice_get-map, slice_get_past}
 use Rattle.std.proofs.lemmas.Result.{OkIff-at_ok}
 use Rattle.std.proofs.lemmas.Slice.Eq.{bytes_eq-Decides}
-use Rattle.std.proofs.lemmas.List.{take_all}
+use Rattle.std.proofs.lemmas.List.{take_all, length-map}
 use Rattle.hf_base.specs.Reading.{four_at}
 use Rattle.hf_base.specs.declared.four.FourCc.{FourCc}
-use Rattle.hf_text.specs.Words.{IsNumber, IsCount, IsKind, is_number, number_of, count_of, kind_of, bare_of, operand}
+use Rattle.hf_text.specs.Words.{IsNumber, IsCount, IsKind, is_number, number_of, count_of, kind_of, bare_of, operand, end_in}
 
 -- numbers
 
@@ -155,9 +155,18 @@ pub operand-some : {A : Type 0} (read : List ℕ → Option A) (at : ℕ) (front
 unfolding operand
 operand-some read at front word words = ap (λ o. ok_or (option_and_then read o) (at + length front)) (slice_get-front front word words)
 
+pub end_back : (at i : ℕ) (words : List (List ℕ)) → length words ≤ i → end_in at words i ≡ Ok tt
+unfolding end_in
+end_back at i words past = ap (λ (b : Bool). if b then Err (at + i) else Ok tt) (le-ltb i (length words) past)
+
 pub operand-none : {A : Type 0} (read : List ℕ → Option A) (at i : ℕ) (words : List (List ℕ)) → length words ≤ i → operand read at words i ≡ Err (at + i)
 unfolding operand
 operand-none read at i words past = ap (λ o. ok_or (option_and_then read o) (at + i)) (slice_get_past words i past)
+
+-- the word that is written for a value gives it
+pub operand_back : {A : Type 0} {read : List ℕ → Option A} {Fits : A → Type 0} {word : A → List ℕ} → IsOperand read Fits word → (at : ℕ) (front : List (List ℕ)) (x : A) (words : List (List ℕ)) → Fits x
+    → operand read at (front ++ word x ∷ words) (length front) ≡ Ok x
+operand_back {read = read} {word = word} op at front x words fits = operand-some read at front (word x) words ∙ ap (λ o. ok_or o (at + length front)) (op.back x fits)
 
 slice_get-take : {X : Type 0} (words : List X) (k i : ℕ) → i < k → slice_get (take k words) i ≡ slice_get words i
 slice_get-take words zero i less = absurd (omega arith)
@@ -169,3 +178,35 @@ pub operand-same : {A : Type 0} (read : List ℕ → Option A) (at i k : ℕ) (w
 unfolding operand
 operand-same read at i k words others same less =
     ap (λ o. ok_or (option_and_then read o) (at + i)) (sym (slice_get-take others k i less) ∙ ap (λ (l : List (List ℕ)). slice_get l i) (sym same) ∙ slice_get-take words k i less)
+
+-- the word at a place of all, among those behind it
+
+slice_get-drop : {X : Type 0} (xs : List X) (at i : ℕ) → slice_get (drop at xs) i ≡ slice_get xs (at + i)
+slice_get-drop xs zero i = ap (slice_get xs) (omega arith)
+slice_get-drop [] (suc at) i = refl
+slice_get-drop (x ∷ xs) (suc at) i = let one : suc at + i ≡ suc (at + i) = omega arith in slice_get-drop xs at i ∙ ap (slice_get (x ∷ xs)) (sym one)
+
+module _ {X : Type 0} (f : X → List ℕ) (xs : List X) (at i : ℕ) where
+  pub operand-here : {A : Type 0} (read : List ℕ → Option A) (x : X) → at + i < length xs → x ≡ get_or xs (at + i) x → operand read at (drop at (map f xs)) i ≡ ok_or (read (f x)) (at + i)
+  unfolding operand
+  operand-here read x less is =
+      let here : slice_get (map f xs) (at + i) ≡ Some (f x) = slice_get-map f xs (at + i) ∙ ap (option_map f) (slice_get-get_or xs (at + i) x less ∙ ap Some (sym is)) in
+      ap (λ o. ok_or (option_and_then read o) (at + i)) (slice_get-drop (map f xs) at i ∙ here)
+
+  pub operand-past : {A : Type 0} (read : List ℕ → Option A) → length xs ≤ at + i → operand read at (drop at (map f xs)) i ≡ Err (at + i)
+  unfolding operand
+  operand-past read past =
+      let none : slice_get (map f xs) (at + i) ≡ None = slice_get-map f xs (at + i) ∙ ap (option_map f) (slice_get_past xs (at + i) past) in
+      ap (λ o. ok_or (option_and_then read o) (at + i)) (slice_get-drop (map f xs) at i ∙ none)
+
+  pub name-here : at + i < length xs → operand (λ (word : List ℕ). Some word) at (drop at (map f xs)) i ≡ Ok (get_or (map f xs) (at + i) [])
+  unfolding operand
+  name-here less =
+      ap (λ o. ok_or (option_and_then (λ (word : List ℕ). Some word) o) (at + i)) (slice_get-drop (map f xs) at i ∙ slice_get-get_or (map f xs) (at + i) [] (omega (arith, less, length-map xs f)))
+
+  pub end-here : at + i < length xs → end_in at (drop at (map f xs)) i ≡ Err (at + i)
+  unfolding end_in
+  end-here less = ap (λ (b : Bool). if b then Err (at + i) else Ok tt) (lt-ltb i (length (drop at (map f xs))) (omega (arith, less, length-map xs f, length-drop at (map f xs))))
+
+  pub end-past : length xs ≤ at + i → end_in at (drop at (map f xs)) i ≡ Ok tt
+  end-past past = end_back at i (drop at (map f xs)) (omega (arith, past, length-map xs f, length-drop at (map f xs)))

@@ -174,10 +174,15 @@ pub record Form (A : Type 0) : Type 0 where
   pub name : List ℕ
   pub read : ℕ → List (List ℕ) → Result A ℕ
 
--- the form with the name that stands first
+-- the form with this name
 abbrev pub form_read : {A : Type 0} → List (Form A) → ℕ → List ℕ → List (List ℕ) → Result A ℕ
 form_read [] at name words = Err at
 form_read (form ∷ others) at name words = if bytes_eq name form.name then form.read at words else form_read others at name words
+
+-- words are read by the form with the name that stands first
+abbrev pub words_read : {A : Type 0} → List (Form A) → ℕ → List (List ℕ) → Result A ℕ
+words_read forms at [] = Err at
+words_read forms at (name ∷ words) = form_read forms at name (name ∷ words)
 
 -- an id stands behind the name
 abbrev pub with_id : List ℕ → (ℕ → EditWord) → Form EditWord
@@ -234,8 +239,7 @@ edit_forms =
 
 -- the edit that stands first, from this place on
 abbrev pub edit_read : ℕ → List (List ℕ) → Result EditWord ℕ
-edit_read at [] = Err at
-edit_read at (name ∷ words) = form_read edit_forms at name (name ∷ words)
+edit_read = words_read edit_forms
 
 -- an edit before others
 abbrev pub edit_then : EditWord → Result (List EditWord) ℕ → Result (List EditWord) ℕ
@@ -317,5 +321,4 @@ short_forms =
     ∷ []
 
 abbrev pub command_read : List (List ℕ) → Result Command ℕ
-command_read [] = Err 0
-command_read (name ∷ words) = form_read (edit_form ∷ short_forms) 0 name (name ∷ words)
+command_read = words_read (edit_form ∷ short_forms) 0

@@ -1,7 +1,7 @@
 //! Words as they stand at their places: numbers, types and the names of files.
 
 ghost use Rattle.std.specs.Prelude.{◌≡◌, ◌+◌, ◌^◌, ◌≤◌, ◌<◌, Ok, drop, length, map, string_bytes, OnOk};
-ghost use Rattle.hf_text.specs.Words.{bare_in, bare_of, count_in, count_of as count_of_word, end_in, kind_in, kind_of as kind_of_word, name_in, number_in, number_of as number_of_word};
+ghost use Rattle.hf_text.specs.Words.{bare_in, bare_of as bare_of_word, count_in, count_of as count_of_word, end_in, kind_in, kind_of as kind_of_word, name_in, number_in, number_of as number_of_word};
 ghost use Rattle.hf_text.specs.Commands.{IsNameRead};
 
 use hf_base::{FourCc, four_at};
@@ -38,6 +38,14 @@ fn kind_of(word: &str) -> Option<FourCc>
         return None;
     }
     Some(four_at(bytes, 0))
+}
+
+/// `true` where the word is `bare`.
+#[tactic(auto, unfolding(crate::specs::Words::bare_of))]
+fn bare_of(word: &str) -> Option<bool>
+    ensures { result ≡ bare_of_word word.now }
+{
+    if word == "bare" { Some(true) } else { None }
 }
 
 /// The number at place `i` of the words from `at` on, or its place where none is.
@@ -88,19 +96,25 @@ pub fn read_name(words: &[String], at: usize, i: usize) -> Result<usize, usize>
     }
 }
 
-/// Whether the word at place `i` is `bare`, or its place where it is not.
-pub fn read_bare(words: &[String], i: usize) -> Result<bool, usize>
-    ensures { result ≡ bare_in 0 (map string_bytes words.now) i }
+/// Whether the word at place `i` of the words from `at` on is `bare`, or its place where it is not.
+pub fn read_bare(words: &[String], at: usize, i: usize) -> Result<bool, usize>
+    requires { at + i < 2 ^ 63 }
+    ensures { result ≡ bare_in at (drop at (map string_bytes words.now)) i }
 {
-    match words.get(i) {
-        Some(word) if word.as_str() == "bare" => Ok(true),
-        _ => Err(i),
+    match words.get(at + i) {
+        Some(word) => bare_of(word.as_str()).ok_or(at + i),
+        None => Err(at + i),
     }
 }
 
-/// Nothing where the words end before place `i`, or that place.
-pub fn read_end(words: &[String], i: usize) -> Result<(), usize>
-    ensures { result ≡ end_in 0 (map string_bytes words.now) i }
+/// Nothing where the words end before place `i` of those from `at` on, or that place.
+pub fn read_end(words: &[String], at: usize, i: usize) -> Result<(), usize>
+    requires { at + i < 2 ^ 63 }
+    ensures { result ≡ end_in at (drop at (map string_bytes words.now)) i }
 {
-    if i < words.len() { Err(i) } else { Ok(()) }
+    if at + i < words.len() {
+        Err(at + i)
+    } else {
+        Ok(())
+    }
 }

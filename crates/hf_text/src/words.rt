@@ -1,7 +1,7 @@
 //! The words of the command line, read from left to right.
 
 ghost use Rattle.std.specs.Prelude.{◌≡◌, ◌≤◌, length, map, string_bytes, IfOk};
-ghost use Rattle.hf_text.specs.Words.{bare_of, command_read, edit_form, extract_form, form_read, redact_form, short_forms, trial_form};
+ghost use Rattle.hf_text.specs.Words.{command_read, edit_form, extract_form, form_read, redact_form, short_forms, trial_form};
 ghost use Rattle.hf_text.specs.declared.words.WordsFault.TheVariants.{NoMemory as no_memory};
 ghost use Rattle.hf_text.specs.Commands.{IsRead, IsShortRead, NamesWords};
 
@@ -78,7 +78,7 @@ fn read_extract(words: &[String]) -> Result<Command, usize>
     let input = read_name(words, 0, 1)?;
     let id = read_number(words, 0, 2)?;
     let out = read_name(words, 0, 3)?;
-    read_end(words, 4)?;
+    read_end(words, 0, 4)?;
     Ok(Command::Extract { input, id, out })
 }
 
@@ -91,8 +91,8 @@ fn read_redact(words: &[String]) -> Result<Command, usize>
     let out = read_name(words, 0, 2)?;
     let mut bare = false;
     if words.len() > 3 {
-        bare = read_bare(words, 3)?;
-        read_end(words, 4)?;
+        bare = read_bare(words, 0, 3)?;
+        read_end(words, 0, 4)?;
     }
     Ok(Command::Redact { input, out, bare })
 }
@@ -105,7 +105,7 @@ fn read_trial(words: &[String]) -> Result<Command, usize>
     let seed = read_number(words, 0, 1)?;
     let n = read_count(words, 0, 2)?;
     let out = read_name(words, 0, 3)?;
-    read_end(words, 4)?;
+    read_end(words, 0, 4)?;
     Ok(Command::Trial { seed, n, out })
 }
 
@@ -117,17 +117,17 @@ fn read_short(name: &str, words: &[String]) -> Result<Command, usize>
     match name {
         "boxes" => {
             let input = read_name(words, 0, 1)?;
-            read_end(words, 2)?;
+            read_end(words, 0, 2)?;
             Ok(Command::Boxes { input })
         }
         "list" => {
             let input = read_name(words, 0, 1)?;
-            read_end(words, 2)?;
+            read_end(words, 0, 2)?;
             Ok(Command::List { input })
         }
         "check" => {
             let input = read_name(words, 0, 1)?;
-            read_end(words, 2)?;
+            read_end(words, 0, 2)?;
             Ok(Command::Check { input })
         }
         "extract" => read_extract(words),
