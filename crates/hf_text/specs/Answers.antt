@@ -6,9 +6,12 @@ use Rattle.hf_text.specs.declared.answers.TrialNumbers.{TrialNumbers}
 abbrev pub check_text : Bool → List ℕ
 check_text canonical = if canonical then codes "canonical\n" else codes "not canonical\n"
 
--- the seed and the number of rows of a trial, then the items and the bytes of its file, and those of its redacted file
+-- how many items and bytes, after a space
+unfoldable pub size_text : ℕ → ℕ → List ℕ
+size_text items bytes = number_field items ++ codes " items," ++ number_field bytes ++ codes " bytes"
+
+-- the seed and the number of rows of a trial, then what its file has, and what its redacted file has
 unfoldable pub trial_text : TrialNumbers → List ℕ
 trial_text t =
     (codes "trial" ++ number_field t.seed ++ number_field t.n ++ codes ":")
-    ++ (number_field t.items ++ codes " items," ++ number_field t.bytes ++ codes " bytes; redacted")
-    ++ (number_field t.kept_items ++ codes " items," ++ number_field t.kept_bytes ++ codes " bytes\n")
+    ++ size_text t.items t.bytes ++ codes "; redacted" ++ size_text t.kept_items t.kept_bytes ++ codes "\n"

@@ -6,3 +6,4 @@ pub mod Parts
 pub mod Texts
 pub mod Words
 pub mod WorkedListings
+pub mod WorkedWords

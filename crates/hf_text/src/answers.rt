@@ -1,8 +1,9 @@
 //! What `check` and `trial` say.
 
-ghost use Rattle.std.specs.Prelude.{◌≡◌};
+ghost use Rattle.std.specs.Prelude.{◌≡◌, ◌++◌, codes};
 ghost use Rattle.hf_desk.specs.Calls.{Says};
-ghost use Rattle.hf_text.specs.Answers.{check_text, trial_text};
+ghost use Rattle.hf_text.specs.Lines.{number_field};
+ghost use Rattle.hf_text.specs.Answers.{check_text, size_text, trial_text};
 
 use arrayvec::ArrayString;
 use hf_desk::{Desk, WriteFault, say_all};
@@ -37,28 +38,47 @@ pub fn say_check<D: Desk>(canonical: bool, desk: &mut D) -> Result<(), WriteFaul
     say_all(desk, text.as_bytes())
 }
 
-/// No line of a trial has more bytes.
-const LINE: usize = 192;
+/// How many items and bytes, after a space.
+#[tactic(auto, unfolding(crate::specs::Answers::size_text))]
+fn size(items: u64, bytes: u64) -> ArrayString<64>
+    ensures { result.bytes ≡ size_text items bytes }
+{
+    let mut text = ArrayString::new();
+    text.push(' ');
+    text.push_str(Buffer::new().format(items));
+    text.push_str(" items, ");
+    text.push_str(Buffer::new().format(bytes));
+    text.push_str(" bytes");
+    text
+}
 
-/// The line of a trial.
-#[tactic(auto, unfolding(crate::specs::Answers::trial_text))]
-fn line_of_trial(numbers: &TrialNumbers) -> ArrayString<LINE>
-    ensures { result.bytes ≡ trial_text numbers.now }
+/// The words in front of the sizes of a trial.
+fn words_of_trial(seed: u32, n: u32) -> ArrayString<32>
+    ensures { result.bytes ≡ codes "trial" ++ number_field seed ++ number_field n ++ codes ":" }
 {
     let mut text = ArrayString::new();
     text.push_str("trial ");
-    text.push_str(Buffer::new().format(numbers.seed));
+    text.push_str(Buffer::new().format(seed));
     text.push(' ');
-    text.push_str(Buffer::new().format(numbers.n));
-    text.push_str(": ");
-    text.push_str(Buffer::new().format(numbers.items));
-    text.push_str(" items, ");
-    text.push_str(Buffer::new().format(numbers.bytes));
-    text.push_str(" bytes; redacted ");
-    text.push_str(Buffer::new().format(numbers.kept_items));
-    text.push_str(" items, ");
-    text.push_str(Buffer::new().format(numbers.kept_bytes));
-    text.push_str(" bytes\n");
+    text.push_str(Buffer::new().format(n));
+    text.push(':');
+    text
+}
+
+/// The line of a trial.
+#[tactic(auto, unfolding(crate::specs::Answers::trial_text))]
+fn line_of_trial(numbers: &TrialNumbers) -> ArrayString<192>
+    ensures { result.bytes ≡ trial_text numbers.now }
+{
+    let words = words_of_trial(numbers.seed, numbers.n);
+    let all = size(numbers.items, numbers.bytes);
+    let kept = size(numbers.kept_items, numbers.kept_bytes);
+    let mut text = ArrayString::new();
+    text.push_str(words.as_str());
+    text.push_str(all.as_str());
+    text.push_str("; redacted");
+    text.push_str(kept.as_str());
+    text.push('\n');
     text
 }
 

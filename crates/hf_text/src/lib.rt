@@ -13,6 +13,7 @@ mod rows;
 mod text;
 mod words;
 pub mod worked;
+pub mod worked_words;
 
 pub use answers::{TrialNumbers, say_check, say_trial};
 pub use edits::EditWord;
