@@ -1,5 +1,5 @@
 -- The words of one edit.
-use Rattle.std.proofs.Common.{◌≡◌, ◌≤◌, ◌<◌, ◌+◌, ℕ, List, [], ◌∷◌, ◌++◌, length, drop, refl, sym, ap, ◌∙◌, arith}
+use Rattle.std.proofs.Common.{◌≡◌, ℕ, List, [], ◌∷◌, ◌++◌, length, drop, refl, sym, ap, ◌∙◌, arith}
 use Rattle.std.specs.Prelude.{Ok, Err, codes, decimal}
 use Rattle.std.specs.List.{AllByRecursion}
 use Rattle.std.proofs.lemmas.List.{append-nil, drop_at}
@@ -88,7 +88,7 @@ edit_read-words at (Crop id x y w h) rest fits =
       operand_back numbers at (codes "crop" ∷ decimal id ∷ []) x (decimal y ∷ decimal w ∷ decimal h ∷ rest) fits.1,
       operand_back numbers at (codes "crop" ∷ decimal id ∷ decimal x ∷ []) y (decimal w ∷ decimal h ∷ rest) fits.2,
       operand_back numbers at (codes "crop" ∷ decimal id ∷ decimal x ∷ decimal y ∷ []) w (decimal h ∷ rest) fits.3,
-      operand_back numbers at (codes "crop" ∷ decimal id ∷ decimal x ∷ decimal y ∷ decimal w ∷ []) h rest fits.4
+      operand_back numbers at (codes "crop" ∷ decimal id ∷ decimal x ∷ decimal y ∷ decimal w ∷ []) h rest fits.4,
     ) refl
 edit_read-words at (Hide id) rest fits = rw (operand_back numbers at (codes "hide" ∷ []) id rest fits) refl
 edit_read-words at (Show id) rest fits = rw (operand_back numbers at (codes "show" ∷ []) id rest fits) refl

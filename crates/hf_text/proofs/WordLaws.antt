@@ -53,7 +53,7 @@ redacts =
     one_more names (codes "redact" ∷ []) _ (λ input any.
     one_more names (codes "redact" ∷ input ∷ []) _ (λ out any.
     ends_or IsCommand words_of Reads (Redact input out false) (codes "redact" ∷ input ∷ out ∷ []) tt refl (tt, refl) _
-        (one_more bares (codes "redact" ∷ input ∷ out ∷ []) _ (λ bare is. bare_ends input out bare is) 3 true refl refl) 3 refl)
+    (one_more bares (codes "redact" ∷ input ∷ out ∷ []) _ (λ bare is. bare_ends input out bare is) 3 true refl refl) 3 refl)
     2 [] tt refl) 1 [] tt refl
 
 -- edits stand behind the files
@@ -143,7 +143,7 @@ words-command (Extract input id out) fits =
       operand_back names 0 (codes "extract" ∷ []) input (decimal id ∷ out ∷ []) tt,
       operand_back numbers 0 (codes "extract" ∷ input ∷ []) id (out ∷ []) fits,
       operand_back names 0 (codes "extract" ∷ input ∷ decimal id ∷ []) out [] tt,
-      end_back 0 4 words (omega arith)
+      end_back 0 4 words (omega arith),
     ) refl
 words-command (EditFile input out edits) fits =
     let rest : List (List ℕ) = flat_map words_of_edit edits in
@@ -156,7 +156,7 @@ words-command (Redact input out true) fits =
       operand_back names 0 (codes "redact" ∷ []) input (out ∷ codes "bare" ∷ []) tt,
       operand_back names 0 (codes "redact" ∷ input ∷ []) out (codes "bare" ∷ []) tt,
       operand_back bares 0 (codes "redact" ∷ input ∷ out ∷ []) true [] refl,
-      end_back 0 4 words (omega arith)
+      end_back 0 4 words (omega arith),
     ) refl
 words-command (Trial seed n out) fits =
     let words : List (List ℕ) = words_of (Trial seed n out) in
@@ -164,7 +164,7 @@ words-command (Trial seed n out) fits =
       operand_back numbers 0 (codes "trial" ∷ []) seed (decimal n ∷ out ∷ []) fits.0,
       operand_back counts 0 (codes "trial" ∷ decimal seed ∷ []) n (out ∷ []) fits.1,
       operand_back names 0 (codes "trial" ∷ decimal seed ∷ decimal n ∷ []) out [] tt,
-      end_back 0 4 words (omega arith)
+      end_back 0 4 words (omega arith),
     ) refl
 
 pub reads-command : (words : List (List ℕ)) (command : Command) → Reads words command → command_read words ≡ Ok command

@@ -1,9 +1,8 @@
-use Rattle.std.proofs.Common.{◌≤◌, ◌+◌, ◌∙◌, map, string_bytes, length, arith, ap, sym, subst, Ok}
+use Rattle.std.proofs.Common.{◌+◌, ◌∙◌, map, string_bytes, arith, ap, sym, subst, Ok}
 use Rattle.std.specs.Prelude.{is_ok}
 use Rattle.std.proofs.lemmas.List.{length-map}
 use Rattle.std.proofs.lemmas.List.Elements.{All-nil, All-same}
 use Rattle.std.proofs.lemmas.Result.{err_from_is_err_and}
-use Rattle.hf_text.specs.Words.{words_of_edit}
 use Rattle.hf_text.specs.Commands.{EditNamesWords, edit_of}
 use Rattle.hf_text.proofs.EditSteps.{Progress, edit_within, progress_start, progress_full, progress_refused, progress_more, progress_end, held_edits}
 use Rattle.hf_text.proofs.edits.read_edits.Goals as goal
@@ -29,7 +28,7 @@ loop-at-preserved c =
     let edit = edit_of words c.in-Ok.edit in
     let within = edit_within words c.loop-at.at edit (omega (arith, len)) c.in-Ok.ensures.read in
     let more = progress_more words c.loop-at.at c.loop-at.count c.loop-at.edits c.loop-at.invariant.1 c.in-Ok.edit c.with_edit-edits.result (omega (arith, len)) (omega arith)
-        c.in-Ok.ensures.read c.in-Ok.ensures.names c.with_edit-edits.ensures in
+    c.in-Ok.ensures.read c.in-Ok.ensures.names c.with_edit-edits.ensures in
     (omega (arith, len, within, c.words.ensures words), subst (λ n. Progress words (c.loop-at.at + n) (c.loop-at.count + 1) c.with_edit-edits.result) (sym (c.words.ensures words)) more)
 
 pub returns-clause-read : goal.returns-clause-read
