@@ -32,7 +32,8 @@ unfolding edits_read
 edits_read-none zero at = refl
 edits_read-none (suc limit) at = refl
 
-pub edits_read-some : (limit at : ℕ) (words : List (List ℕ)) → 0 < length words → edits_read (suc limit) at words ≡ edits_from (edit_read at words) (λ n. edits_read limit (at + n) (drop n words))
+pub edits_read-some : (limit at : ℕ) (words : List (List ℕ)) → 0 < length words
+    → edits_read (suc limit) at words ≡ edits_from (edit_read at words) (λ n. edits_read limit (at + n) (drop n words))
 unfolding edits_read
 edits_read-some limit at [] some = absurd (omega arith)
 edits_read-some limit at (word ∷ words) some = refl
@@ -42,7 +43,8 @@ unfolding edits_read
 edits_read-full at [] some = absurd (omega arith)
 edits_read-full at (word ∷ words) some = refl
 
-pub edits_read-words : (limit at : ℕ) (edits : List EditWord) → AllByRecursion IsEdit edits → length edits ≤ limit → edits_read limit at (flat_map words_of_edit edits) ≡ Ok edits
+pub edits_read-words : (limit at : ℕ) (edits : List EditWord) → AllByRecursion IsEdit edits → length edits ≤ limit
+    → edits_read limit at (flat_map words_of_edit edits) ≡ Ok edits
 edits_read-words limit at [] fits few = edits_read-none limit at
 edits_read-words zero at (edit ∷ edits) fits few = absurd (omega arith)
 edits_read-words (suc limit) at (edit ∷ edits) fits few =
@@ -69,7 +71,8 @@ then_err edit (Err at) p e = cc
 Reading : ℕ → Type 0
 Reading limit = (at : ℕ) (words : List (List ℕ)) (edits : List EditWord) → edits_read limit at words ≡ Ok edits → EditsRead limit words edits
 
-read_first : (limit at : ℕ) (words : List (List ℕ)) (edits : List EditWord) (read : Result EditWord ℕ) → Reading limit → edit_read at words ≡ read → edits_from read (λ (n : ℕ). edits_read limit (at + n) (drop n words)) ≡ Ok edits → EditsRead (suc limit) words edits
+read_first : (limit at : ℕ) (words : List (List ℕ)) (edits : List EditWord) (read : Result EditWord ℕ) → Reading limit → edit_read at words ≡ read
+    → edits_from read (λ (n : ℕ). edits_read limit (at + n) (drop n words)) ≡ Ok edits → EditsRead (suc limit) words edits
 unfolding Reading
 read_first limit at words edits (Err p) more first e = absurd (cc)
 read_first limit at words edits (Ok edit) more first e =
@@ -102,7 +105,8 @@ one_edit : (limit k : ℕ) (words : List (List ℕ)) → EditBegins words k → 
 one_edit limit k words b = record { edits = b.value ∷ []; fits = (b.fits, tt); few = omega arith; fronts = Fronts-wider [] b.fronts }
 
 -- where no edit stands first, none is passed
-most_refused : (at p k j : ℕ) (words : List (List ℕ)) → edit_read at words ≡ Err p → ((j : ℕ) → EditBegins words j → j ≤ k) → (edits : List EditWord) → AllByRecursion IsEdit edits → Fronts j words (flat_map words_of_edit edits) → j ≤ k
+most_refused : (at p k j : ℕ) (words : List (List ℕ)) → edit_read at words ≡ Err p → ((j : ℕ) → EditBegins words j → j ≤ k) → (edits : List EditWord)
+    → AllByRecursion IsEdit edits → Fronts j words (flat_map words_of_edit edits) → j ≤ k
 most_refused at p k j words e most [] fits f = omega (arith, f.short)
 most_refused at p k j words e most (edit ∷ edits) fits f =
     elim (cases_lt j (length (words_of_edit edit))) [
@@ -115,7 +119,8 @@ most_refused at p k j words e most (edit ∷ edits) fits f =
     ]
 
 -- edits that begin these words begin with the edit that stands first
-same_first : (edit other : EditWord) (rest whole : List (List ℕ)) (j : ℕ) → IsEdit edit → IsEdit other → length (words_of_edit edit) ≤ j → Fronts j (words_of_edit edit ++ rest) (words_of_edit other ++ whole) → other ≡ edit
+same_first : (edit other : EditWord) (rest whole : List (List ℕ)) (j : ℕ) → IsEdit edit → IsEdit other → length (words_of_edit edit) ≤ j
+    → Fronts j (words_of_edit edit ++ rest) (words_of_edit other ++ whole) → other ≡ edit
 same_first edit other rest whole j fits fits_other past f =
     let all = Fronts-past (words_of_edit edit) rest past (Fronts-flip f) in
     let reads = edit_read-words 0 edit (drop (length (words_of_edit edit)) (words_of_edit other ++ whole)) fits in
@@ -123,39 +128,49 @@ same_first edit other rest whole j fits fits_other past f =
     let known : edit_read 0 (words_of_edit other ++ whole) ≡ Ok edit = ap (edit_read 0) all ∙ reads in
     cc
 
-behind_first : (edit other : EditWord) (rest whole : List (List ℕ)) (j : ℕ) → IsEdit edit → IsEdit other → length (words_of_edit edit) ≤ j → Fronts j (words_of_edit edit ++ rest) (words_of_edit other ++ whole) → Fronts (j - length (words_of_edit edit)) rest whole
+behind_first : (edit other : EditWord) (rest whole : List (List ℕ)) (j : ℕ) → IsEdit edit → IsEdit other → length (words_of_edit edit) ≤ j
+    → Fronts j (words_of_edit edit ++ rest) (words_of_edit other ++ whole) → Fronts (j - length (words_of_edit edit)) rest whole
 behind_first edit other rest whole j fits fits_other past f =
     let same = same_first edit other rest whole j fits fits_other past f in
-    let own : Fronts j (words_of_edit edit ++ rest) (words_of_edit edit ++ whole) = subst (λ (e : EditWord). Fronts j (words_of_edit edit ++ rest) (words_of_edit e ++ whole)) same f in
+    let own : Fronts j (words_of_edit edit ++ rest) (words_of_edit edit ++ whole) = subst
+    (λ (e : EditWord). Fronts j (words_of_edit edit ++ rest) (words_of_edit e ++ whole)) same f in
     let split : j ≡ length (words_of_edit edit) + (j - length (words_of_edit edit)) = omega arith in
-    Fronts-less (j - length (words_of_edit edit)) (words_of_edit edit) (subst (λ (n : ℕ). Fronts n (words_of_edit edit ++ rest) (words_of_edit edit ++ whole)) split own)
+    Fronts-less (j - length (words_of_edit edit)) (words_of_edit edit) (subst (λ (n : ℕ). Fronts n (words_of_edit edit ++ rest)
+    (words_of_edit edit ++ whole)) split own)
 
-most_behind : (limit k j : ℕ) (words : List (List ℕ)) (edit : EditWord) → EditReads words edit → ((j : ℕ) → EditsBegin limit (drop (length (words_of_edit edit)) words) j → j ≤ k) → (edits : List EditWord) → AllByRecursion IsEdit edits → length edits ≤ suc limit → Fronts j words (flat_map words_of_edit edits) → j ≤ length (words_of_edit edit) + k
+most_behind : (limit k j : ℕ) (words : List (List ℕ)) (edit : EditWord) → EditReads words edit
+    → ((j : ℕ) → EditsBegin limit (drop (length (words_of_edit edit)) words) j → j ≤ k) → (edits : List EditWord) → AllByRecursion IsEdit edits
+    → length edits ≤ suc limit → Fronts j words (flat_map words_of_edit edits) → j ≤ length (words_of_edit edit) + k
 most_behind limit k j words edit reads most [] fits few f = omega (arith, f.short)
 most_behind limit k j words edit reads most (other ∷ edits) fits few f =
     elim (cases_lt j (length (words_of_edit edit))) [
       | inl less ↦ omega arith
       | inr past ↦
           let whole : List (List ℕ) = flat_map words_of_edit edits in
-          let own : Fronts j (words_of_edit edit ++ drop (length (words_of_edit edit)) words) (words_of_edit other ++ whole) = subst (λ (l : List (List ℕ)). Fronts j l (words_of_edit other ++ whole)) reads.whole f in
+          let own : Fronts j (words_of_edit edit ++ drop (length (words_of_edit edit)) words) (words_of_edit other ++ whole) = subst
+          (λ (l : List (List ℕ)). Fronts j l (words_of_edit other ++ whole)) reads.whole f in
           let behind = behind_first edit other (drop (length (words_of_edit edit)) words) whole j reads.fits fits.0 past own in
           omega (arith, most (j - length (words_of_edit edit)) (record { edits = edits; fits = fits.1; few = omega arith; fronts = behind }))
     ]
 
-begin_behind : (limit k : ℕ) (words : List (List ℕ)) (edit : EditWord) → EditReads words edit → EditsBegin limit (drop (length (words_of_edit edit)) words) k → EditsBegin (suc limit) words (length (words_of_edit edit) + k)
+begin_behind : (limit k : ℕ) (words : List (List ℕ)) (edit : EditWord) → EditReads words edit
+    → EditsBegin limit (drop (length (words_of_edit edit)) words) k → EditsBegin (suc limit) words (length (words_of_edit edit) + k)
 begin_behind limit k words edit reads b =
-    let f : Fronts (length (words_of_edit edit) + k) (words_of_edit edit ++ drop (length (words_of_edit edit)) words) (words_of_edit edit ++ flat_map words_of_edit b.edits) = Fronts-more (words_of_edit edit) b.fronts in
+    let f : Fronts (length (words_of_edit edit) + k) (words_of_edit edit ++ drop (length (words_of_edit edit)) words)
+    (words_of_edit edit ++ flat_map words_of_edit b.edits) = Fronts-more (words_of_edit edit) b.fronts in
     record {
       edits = edit ∷ b.edits;
       fits = (reads.fits, b.fits);
       few = omega (arith, b.few);
-      fronts = subst (λ (l : List (List ℕ)). Fronts (length (words_of_edit edit) + k) l (words_of_edit edit ++ flat_map words_of_edit b.edits)) (sym reads.whole) f;
+      fronts = subst (λ (l : List (List ℕ)). Fronts (length (words_of_edit edit) + k) l (words_of_edit edit ++ flat_map words_of_edit b.edits))
+          (sym reads.whole) f;
     }
 
 Stopping : ℕ → Type 0
 Stopping limit = (at p : ℕ) (words : List (List ℕ)) → edits_read limit at words ≡ Err p → StopsAt (EditsBegin limit words) at p
 
-stop_first : (limit at p : ℕ) (words : List (List ℕ)) (read : Result EditWord ℕ) → Stopping limit → edit_read at words ≡ read → edits_from read (λ (n : ℕ). edits_read limit (at + n) (drop n words)) ≡ Err p → StopsAt (EditsBegin (suc limit) words) at p
+stop_first : (limit at p : ℕ) (words : List (List ℕ)) (read : Result EditWord ℕ) → Stopping limit → edit_read at words ≡ read
+    → edits_from read (λ (n : ℕ). edits_read limit (at + n) (drop n words)) ≡ Err p → StopsAt (EditsBegin (suc limit) words) at p
 unfolding Stopping
 stop_first limit at p words (Err q) more first e =
     let here : edit_read at words ≡ Err p = cc in

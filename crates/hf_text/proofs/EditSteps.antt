@@ -13,9 +13,11 @@ use Rattle.hf_text.proofs.Forms.{edit_reads}
 use Rattle.hf_text.proofs.EditLaws.{edits_read-none, edits_read-some, edits_read-full}
 
 -- the word at a place stands before those behind it
-pub word_at : {X : Type 0} (f : X → List ℕ) (xs : List X) (at : ℕ) (word : X) → at < length xs → word ≡ get_or xs at word → drop at (map f xs) ≡ f word ∷ drop (at + 1) (map f xs)
+pub word_at : {X : Type 0} (f : X → List ℕ) (xs : List X) (at : ℕ) (word : X) → at < length xs → word ≡ get_or xs at word
+    → drop at (map f xs) ≡ f word ∷ drop (at + 1) (map f xs)
 word_at f xs at word less is =
-    rw add-one (drop-cons (map f xs) at (f word) (omega (arith, less, length-map xs f)) ∙ ap (λ (w : List ℕ). w ∷ drop (suc at) (map f xs)) (get_or-map f xs at word (f word) less ∙ ap f (sym is)))
+    rw add-one (drop-cons (map f xs) at (f word) (omega (arith, less, length-map xs f)) ∙ ap (λ (w : List ℕ). w ∷ drop (suc at) (map f xs))
+    (get_or-map f xs at word (f word) less ∙ ap f (sym is)))
 
 -- the edit with the name that stands at a place
 pub edit_named : {X : Type 0} (f : X → List ℕ) (xs : List X) (at : ℕ) (word : X) → at < length xs → word ≡ get_or xs at word
@@ -34,7 +36,8 @@ unfolding edits_before
 before_none (Ok edits) = refl
 before_none (Err at) = refl
 
-before_then : (edits : List EditWord) (edit : EditWord) (read : Result (List EditWord) ℕ) → edits_before edits (edit_then edit read) ≡ edits_before (edits ++ edit ∷ []) read
+before_then : (edits : List EditWord) (edit : EditWord) (read : Result (List EditWord) ℕ)
+    → edits_before edits (edit_then edit read) ≡ edits_before (edits ++ edit ∷ []) read
 unfolding edits_before
 before_then edits edit (Ok more) = ap Ok (sym (append_assoc edits (edit ∷ []) more))
 before_then edits edit (Err at) = refl
@@ -62,39 +65,50 @@ module _ (words : List (List ℕ)) (at count : ℕ) (held : Result (Vec PlacedEd
       let none : EDITS - count ≡ 0 = omega (arith, full) in
       p.read ∙ ap (edits_before p.edits) (ap (λ (n : ℕ). edits_read n at (drop at words)) none ∙ edits_read-full at (drop at words) (some_left less))
 
-  step : at < length words → count ≢ EDITS → edits_read (EDITS - count) at (drop at words) ≡ edits_from (edit_read at (drop at words)) (λ (n : ℕ). edits_read (EDITS - (count + 1)) (at + n) (drop n (drop at words)))
+  step : at < length words → count ≢ EDITS
+      → edits_read (EDITS - count) at (drop at words) ≡ edits_from (edit_read at (drop at words)) (λ (n : ℕ). edits_read (EDITS - (count + 1)) (at + n) (drop n (drop at words)))
   step less room =
       let one : EDITS - count ≡ suc (EDITS - (count + 1)) = omega (arith, p.few, room) in
       ap (λ (n : ℕ). edits_read n at (drop at words)) one ∙ edits_read-some (EDITS - (count + 1)) at (drop at words) (some_left less)
 
-  pub progress_refused : (place : ℕ) → at < length words → count ≢ EDITS → edit_read at (drop at words) ≡ Err place → edits_read EDITS 3 (drop 3 words) ≡ Err place
+  pub progress_refused : (place : ℕ) → at < length words → count ≢ EDITS → edit_read at (drop at words) ≡ Err place
+      → edits_read EDITS 3 (drop 3 words) ≡ Err place
   unfolding edits_before
   progress_refused place less room e =
-      p.read ∙ ap (edits_before p.edits) (step less room ∙ ap (λ (r : Result EditWord ℕ). edits_from r (λ (n : ℕ). edits_read (EDITS - (count + 1)) (at + n) (drop n (drop at words)))) e)
+      p.read ∙ ap (edits_before p.edits) (step less room ∙ ap (λ (r : Result EditWord ℕ). edits_from r
+      (λ (n : ℕ). edits_read (EDITS - (count + 1)) (at + n) (drop n (drop at words)))) e)
 
-  pub progress_more : (edit : PlacedEdit) (new : Result (Vec PlacedEdit) NoRoom) → at < length words → count ≢ EDITS → edit_read at (drop at words) ≡ Ok (edit_of words edit) → EditNamesWords words edit → IsPushed held edit new
+  pub progress_more : (edit : PlacedEdit) (new : Result (Vec PlacedEdit) NoRoom) → at < length words → count ≢ EDITS
+      → edit_read at (drop at words) ≡ Ok (edit_of words edit) → EditNamesWords words edit → IsPushed held edit new
       → Progress words (at + length (words_of_edit (edit_of words edit))) (count + 1) new
   progress_more edit new less room e named pushed =
       let n : ℕ = length (words_of_edit (edit_of words edit)) in
-      let one : edits_read (EDITS - count) at (drop at words) ≡ edit_then (edit_of words edit) (edits_read (EDITS - (count + 1)) (at + n) (drop n (drop at words))) = step less room ∙ ap (λ (r : Result EditWord ℕ). edits_from r (λ (n : ℕ). edits_read (EDITS - (count + 1)) (at + n) (drop n (drop at words)))) e in
+      let one : edits_read (EDITS - count) at (drop at words) ≡ edit_then (edit_of words edit)
+      (edits_read (EDITS - (count + 1)) (at + n) (drop n (drop at words))) = step less room
+      ∙ ap (λ (r : Result EditWord ℕ). edits_from r (λ (n : ℕ). edits_read (EDITS - (count + 1)) (at + n) (drop n (drop at words)))) e in
       record {
         edits = p.edits ++ edit_of words edit ∷ [];
         has = pushed words p.edits p.has named;
         few = omega (arith, p.few, room);
-        read = p.read ∙ ap (edits_before p.edits) one ∙ before_then p.edits (edit_of words edit) _ ∙ ap (λ (l : List (List ℕ)). edits_before (p.edits ++ edit_of words edit ∷ []) (edits_read (EDITS - (count + 1)) (at + n) l)) (drop-drop n at words);
+        read = p.read ∙ ap (edits_before p.edits) one ∙ before_then p.edits (edit_of words edit) _
+            ∙ ap (λ (l : List (List ℕ)). edits_before (p.edits ++ edit_of words edit ∷ []) (edits_read (EDITS - (count + 1)) (at + n) l))
+            (drop-drop n at words);
       }
 
   pub progress_end : length words ≤ at → edits_read EDITS 3 (drop 3 words) ≡ Ok p.edits
   unfolding edits_before
   progress_end past =
-      p.read ∙ ap (edits_before p.edits) (ap (edits_read (EDITS - count) at) (drop_all at words past) ∙ edits_read-none (EDITS - count) at) ∙ ap Ok (append-nil p.edits)
+      p.read ∙ ap (edits_before p.edits) (ap (edits_read (EDITS - count) at) (drop_all at words past) ∙ edits_read-none (EDITS - count) at)
+      ∙ ap Ok (append-nil p.edits)
 
 -- an edit has no more words than there are
-pub edit_within : (words : List (List ℕ)) (at : ℕ) (edit : EditWord) → at ≤ length words → edit_read at (drop at words) ≡ Ok edit → at + length (words_of_edit edit) ≤ length words
+pub edit_within : (words : List (List ℕ)) (at : ℕ) (edit : EditWord) → at ≤ length words → edit_read at (drop at words) ≡ Ok edit
+    → at + length (words_of_edit edit) ≤ length words
 edit_within words at edit within e =
     let own = edit_reads at (drop at words) edit e in
     omega (arith, ap length own.whole, length-append (words_of_edit edit) (drop (length (words_of_edit edit)) (drop at words)), length-drop at words)
 
 -- where memory was not refused they are held
-pub held_edits : (words : List (List ℕ)) (held : Result (Vec PlacedEdit) NoRoom) (vec : Vec PlacedEdit) (edits : List EditWord) → held ≡ Ok vec → HasEdits words held edits → Holds words vec edits
+pub held_edits : (words : List (List ℕ)) (held : Result (Vec PlacedEdit) NoRoom) (vec : Vec PlacedEdit) (edits : List EditWord) → held ≡ Ok vec
+    → HasEdits words held edits → Holds words vec edits
 held_edits words held vec edits is has = IfOk-at_ok (λ (v : Vec PlacedEdit). Holds words v edits) is has

@@ -16,12 +16,18 @@ pub Fronts-left : {k : ℕ} {words : List (List ℕ)} (a b : List (List ℕ)) �
 Fronts-left {k = k} a b small f = record { same = f.same ∙ take-append-le k a b small; within = f.within; short = small }
 
 pub Fronts-wider : {k : ℕ} {words a : List (List ℕ)} (b : List (List ℕ)) → Fronts k words a → Fronts k words (a ++ b)
-Fronts-wider {k = k} {a = a} b f = record { same = f.same ∙ sym (take-append-le k a b f.short); within = f.within; short = omega (arith, length-append a b, f.short) }
+Fronts-wider {k = k} {a = a} b f = record {
+  same = f.same ∙ sym (take-append-le k a b f.short);
+  within = f.within;
+  short = omega
+      (arith, length-append a b, f.short);
+}
 
 -- words that begin as a, and go on
 pub Fronts-past : {k : ℕ} {words : List (List ℕ)} (a b : List (List ℕ)) → length a ≤ k → Fronts k words (a ++ b) → words ≡ a ++ drop (length a) words
 Fronts-past {k = k} {words = words} a b long f =
-    let first : take (length a) words ≡ a = sym (take-take (length a) k words long) ∙ ap (take (length a)) f.same ∙ take-take (length a) k (a ++ b) long ∙ take_at a b (length a) refl in
+    let first : take (length a) words ≡ a = sym (take-take (length a) k words long) ∙ ap (take (length a)) f.same ∙ take-take (length a) k (a ++ b) long
+    ∙ take_at a b (length a) refl in
     sym (take-append-drop (length a) words) ∙ ap (λ (l : List (List ℕ)). l ++ drop (length a) words) first
 
 pub Fronts-flip : {k : ℕ} {words whole : List (List ℕ)} → Fronts k words whole → Fronts k whole words

@@ -12,11 +12,13 @@ use Rattle.std.proofs.lemmas.Slice.Eq.{bytes_eq-Decides}
 use Rattle.std.proofs.lemmas.List.{take_all, length-map}
 use Rattle.hf_base.specs.Reading.{four_at}
 use Rattle.hf_base.specs.declared.four.FourCc.{FourCc}
+use Rattle.hf_box.specs.Literals.{four}
 use Rattle.hf_text.specs.Words.{IsNumber, IsCount, IsKind, is_number, number_of, count_of, kind_of, bare_of, operand, end_in}
 
 -- numbers
 
-chosen_number : (word : List ℕ) (n : ℕ) (b : Bool) → is_number word ≡ b → (if b then Some (digits_value 10 word) else None) ≡ Some n → (n < 256 ^ 4) × (word ≡ decimal n)
+chosen_number : (word : List ℕ) (n : ℕ) (b : Bool) → is_number word ≡ b → (if b then Some (digits_value 10 word) else None) ≡ Some n
+    → (n < 256 ^ 4) × (word ≡ decimal n)
 chosen_number word n false is e = absurd (cc)
 chosen_number word n true is e =
     let same : digits_value 10 word ≡ n = cc in
@@ -28,7 +30,8 @@ unfolding number_of
 number_of-word word n e = chosen_number word n (is_number word) refl e
 
 is_number-decimal : (n : ℕ) → n < 256 ^ 4 → digits_value 10 (decimal n) ≡ n → is_number (decimal n) ≡ true
-is_number-decimal n small value = and_from _ _ (lt-ltb _ _ (omega (arith, value))) ((bytes_eq-Decides (decimal n) (decimal (digits_value 10 (decimal n)))).1 (ap decimal (sym value)))
+is_number-decimal n small value = and_from _ _ (lt-ltb _ _ (omega (arith, value)))
+    ((bytes_eq-Decides (decimal n) (decimal (digits_value 10 (decimal n)))).1 (ap decimal (sym value)))
 
 pub number_of-decimal : (n : ℕ) → n < 256 ^ 4 → number_of (decimal n) ≡ Some n
 unfolding number_of
@@ -38,19 +41,22 @@ number_of-decimal n small =
     ap (λ (b : Bool). if b then Some (digits_value 10 (decimal n)) else None) is ∙ ap Some value
 
 -- what `parse` reads, and is written so, is the number
-pub parsed_number : {E : Type 0} (word : List ℕ) (result : Result ℕ E) (n : ℕ) → ParsesUnsigned 32 10 word result → result ≡ Ok n → word ≡ decimal n → Some n ≡ number_of word
+pub parsed_number : {E : Type 0} (word : List ℕ) (result : Result ℕ E) (n : ℕ) → ParsesUnsigned 32 10 word result → result ≡ Ok n → word ≡ decimal n
+    → Some n ≡ number_of word
 parsed_number word result n parses is written =
     let value = OkIff-at_ok result _ _ n parses is in
     sym (ap number_of written ∙ number_of-decimal n (omega (arith, value.0.1, value.1)))
 
-no_number_of : {E : Type 0} (word : List ℕ) (result : Result ℕ E) (o : Option ℕ) → ParsesUnsigned 32 10 word result → ((n : ℕ) → result ≡ Ok n → word ≡ decimal n → ⊥) → number_of word ≡ o → None ≡ o
+no_number_of : {E : Type 0} (word : List ℕ) (result : Result ℕ E) (o : Option ℕ) → ParsesUnsigned 32 10 word result
+    → ((n : ℕ) → result ≡ Ok n → word ≡ decimal n → ⊥) → number_of word ≡ o → None ≡ o
 no_number_of word result None parses none is = refl
 no_number_of word result (Some n) parses none is =
     let means = number_of-word word n is in
     absurd (none n (parse-decimal 32 n word result (omega (arith, means.0)) (omega (arith, means.0)) means.1 parses) means.1)
 
 -- anything else is none
-pub unparsed_number : {E : Type 0} (word : List ℕ) (result : Result ℕ E) → ParsesUnsigned 32 10 word result → ((n : ℕ) → result ≡ Ok n → word ≡ decimal n → ⊥) → None ≡ number_of word
+pub unparsed_number : {E : Type 0} (word : List ℕ) (result : Result ℕ E) → ParsesUnsigned 32 10 word result
+    → ((n : ℕ) → result ≡ Ok n → word ≡ decimal n → ⊥) → None ≡ number_of word
 unparsed_number word result parses none = no_number_of word result (number_of word) parses none refl
 
 -- types
@@ -58,7 +64,8 @@ unparsed_number word result parses none = no_number_of word result (number_of wo
 abbrev own : List ℕ → FourCc
 own word = record { 0 = word }
 
-chosen_kind : (word : List ℕ) (kind : FourCc) (b : Bool) → (length word == 4) ≡ b → (if b then Some (own word) else None) ≡ Some kind → IsKind kind × (word ≡ kind.0)
+chosen_kind : (word : List ℕ) (kind : FourCc) (b : Bool) → (length word == 4) ≡ b → (if b then Some (own word) else None) ≡ Some kind
+    → IsKind kind × (word ≡ kind.0)
 chosen_kind word kind false is e = absurd (cc)
 chosen_kind word kind true is e =
     let same : own word ≡ kind = cc in
@@ -74,7 +81,8 @@ kind_of-kind kind fits = rw fits refl
 
 pub kind_of_four : (word : List ℕ) → length word ≡ 4 → Some (four_at 0 word) ≡ kind_of word
 unfolding kind_of
-kind_of_four word four = ap (λ (w : List ℕ). Some (own w)) (take_all 4 word (omega (arith, four))) ∙ ap (λ (b : Bool). if b then Some (own word) else None) (sym (eq-eqb (length word) 4 four))
+kind_of_four word four = ap (λ (w : List ℕ). Some (own w)) (take_all 4 word (omega (arith, four))) ∙ ap (λ (b : Bool). if b then Some (own word) else None)
+    (sym (eq-eqb (length word) 4 four))
 
 pub kind_of_other : (word : List ℕ) → length word ≢ 4 → None ≡ kind_of word
 unfolding kind_of
@@ -125,25 +133,27 @@ bare_of-bare x is = ap Some (sym is)
 
 -- one word is read
 
--- what is read of a word is what is written so
+-- what is read of a word is what is written so, and there is such a word
 pub record IsOperand {A : Type 0} (read : List ℕ → Option A) (Fits : A → Type 0) (word : A → List ℕ) : Type 0 where
   pub reads : (w : List ℕ) (x : A) → read w ≡ Some x → Fits x × (w ≡ word x)
   pub back : (x : A) → Fits x → read (word x) ≡ Some x
+  pub some : A
+  pub suits : Fits some
 
 pub numbers : IsOperand number_of IsNumber decimal
-numbers = record { reads = number_of-word; back = number_of-decimal }
+numbers = record { reads = number_of-word; back = number_of-decimal; some = 0; suits = omega arith }
 
 pub counts : IsOperand count_of IsCount decimal
-counts = record { reads = count_of-word; back = count_of-decimal }
+counts = record { reads = count_of-word; back = count_of-decimal; some = 1; suits = (omega arith, omega arith) }
 
 pub kinds : IsOperand kind_of IsKind (λ (kind : FourCc). kind.0)
-kinds = record { reads = kind_of-word; back = kind_of-kind }
+kinds = record { reads = kind_of-word; back = kind_of-kind; some = four "free"; suits = refl }
 
 pub names : IsOperand (λ (word : List ℕ). Some word) (λ (word : List ℕ). Unit {0}) (λ (word : List ℕ). word)
-names = record { reads = λ w x e. (tt, cc); back = λ x fits. refl }
+names = record { reads = λ w x e. (tt, cc); back = λ x fits. refl; some = []; suits = tt }
 
 pub bares : IsOperand bare_of (λ (x : Bool). x ≡ true) (λ (x : Bool). codes "bare")
-bares = record { reads = bare_of-word; back = bare_of-bare }
+bares = record { reads = bare_of-word; back = bare_of-bare; some = true; suits = refl }
 
 -- it stands at a place
 
@@ -151,7 +161,8 @@ slice_get-front : (front : List (List ℕ)) (word : List ℕ) (words : List (Lis
 slice_get-front [] word words = refl
 slice_get-front (first ∷ front) word words = slice_get-front front word words
 
-pub operand-some : {A : Type 0} (read : List ℕ → Option A) (at : ℕ) (front : List (List ℕ)) (word : List ℕ) (words : List (List ℕ)) → operand read at (front ++ word ∷ words) (length front) ≡ ok_or (read word) (at + length front)
+pub operand-some : {A : Type 0} (read : List ℕ → Option A) (at : ℕ) (front : List (List ℕ)) (word : List ℕ) (words : List (List ℕ))
+    → operand read at (front ++ word ∷ words) (length front) ≡ ok_or (read word) (at + length front)
 unfolding operand
 operand-some read at front word words = ap (λ o. ok_or (option_and_then read o) (at + length front)) (slice_get-front front word words)
 
@@ -164,9 +175,11 @@ unfolding operand
 operand-none read at i words past = ap (λ o. ok_or (option_and_then read o) (at + i)) (slice_get_past words i past)
 
 -- the word that is written for a value gives it
-pub operand_back : {A : Type 0} {read : List ℕ → Option A} {Fits : A → Type 0} {word : A → List ℕ} → IsOperand read Fits word → (at : ℕ) (front : List (List ℕ)) (x : A) (words : List (List ℕ)) → Fits x
+pub operand_back : {A : Type 0} {read : List ℕ → Option A} {Fits : A → Type 0} {word : A → List ℕ} → IsOperand read Fits word
+    → (at : ℕ) (front : List (List ℕ)) (x : A) (words : List (List ℕ)) → Fits x
     → operand read at (front ++ word x ∷ words) (length front) ≡ Ok x
-operand_back {read = read} {word = word} op at front x words fits = operand-some read at front (word x) words ∙ ap (λ o. ok_or o (at + length front)) (op.back x fits)
+operand_back {read = read} {word = word} op at front x words fits = operand-some read at front (word x) words
+    ∙ ap (λ o. ok_or o (at + length front)) (op.back x fits)
 
 slice_get-take : {X : Type 0} (words : List X) (k i : ℕ) → i < k → slice_get (take k words) i ≡ slice_get words i
 slice_get-take words zero i less = absurd (omega arith)
@@ -174,10 +187,12 @@ slice_get-take [] (suc k) i less = refl
 slice_get-take (word ∷ words) (suc k) zero less = refl
 slice_get-take (word ∷ words) (suc k) (suc i) less = slice_get-take words k i (omega arith)
 
-pub operand-same : {A : Type 0} (read : List ℕ → Option A) (at i k : ℕ) (words others : List (List ℕ)) → take k words ≡ take k others → i < k → operand read at others i ≡ operand read at words i
+pub operand-same : {A : Type 0} (read : List ℕ → Option A) (at i k : ℕ) (words others : List (List ℕ)) → take k words ≡ take k others → i < k
+    → operand read at others i ≡ operand read at words i
 unfolding operand
 operand-same read at i k words others same less =
-    ap (λ o. ok_or (option_and_then read o) (at + i)) (sym (slice_get-take others k i less) ∙ ap (λ (l : List (List ℕ)). slice_get l i) (sym same) ∙ slice_get-take words k i less)
+    ap (λ o. ok_or (option_and_then read o) (at + i)) (sym (slice_get-take others k i less) ∙ ap (λ (l : List (List ℕ)). slice_get l i) (sym same)
+    ∙ slice_get-take words k i less)
 
 -- the word at a place of all, among those behind it
 
@@ -187,10 +202,12 @@ slice_get-drop [] (suc at) i = refl
 slice_get-drop (x ∷ xs) (suc at) i = let one : suc at + i ≡ suc (at + i) = omega arith in slice_get-drop xs at i ∙ ap (slice_get (x ∷ xs)) (sym one)
 
 module _ {X : Type 0} (f : X → List ℕ) (xs : List X) (at i : ℕ) where
-  pub operand-here : {A : Type 0} (read : List ℕ → Option A) (x : X) → at + i < length xs → x ≡ get_or xs (at + i) x → operand read at (drop at (map f xs)) i ≡ ok_or (read (f x)) (at + i)
+  pub operand-here : {A : Type 0} (read : List ℕ → Option A) (x : X) → at + i < length xs → x ≡ get_or xs (at + i) x
+      → operand read at (drop at (map f xs)) i ≡ ok_or (read (f x)) (at + i)
   unfolding operand
   operand-here read x less is =
-      let here : slice_get (map f xs) (at + i) ≡ Some (f x) = slice_get-map f xs (at + i) ∙ ap (option_map f) (slice_get-get_or xs (at + i) x less ∙ ap Some (sym is)) in
+      let here : slice_get (map f xs) (at + i) ≡ Some (f x) = slice_get-map f xs (at + i)
+      ∙ ap (option_map f) (slice_get-get_or xs (at + i) x less ∙ ap Some (sym is)) in
       ap (λ o. ok_or (option_and_then read o) (at + i)) (slice_get-drop (map f xs) at i ∙ here)
 
   pub operand-past : {A : Type 0} (read : List ℕ → Option A) → length xs ≤ at + i → operand read at (drop at (map f xs)) i ≡ Err (at + i)
@@ -202,11 +219,13 @@ module _ {X : Type 0} (f : X → List ℕ) (xs : List X) (at i : ℕ) where
   pub name-here : at + i < length xs → operand (λ (word : List ℕ). Some word) at (drop at (map f xs)) i ≡ Ok (get_or (map f xs) (at + i) [])
   unfolding operand
   name-here less =
-      ap (λ o. ok_or (option_and_then (λ (word : List ℕ). Some word) o) (at + i)) (slice_get-drop (map f xs) at i ∙ slice_get-get_or (map f xs) (at + i) [] (omega (arith, less, length-map xs f)))
+      ap (λ o. ok_or (option_and_then (λ (word : List ℕ). Some word) o) (at + i))
+      (slice_get-drop (map f xs) at i ∙ slice_get-get_or (map f xs) (at + i) [] (omega (arith, less, length-map xs f)))
 
   pub end-here : at + i < length xs → end_in at (drop at (map f xs)) i ≡ Err (at + i)
   unfolding end_in
-  end-here less = ap (λ (b : Bool). if b then Err (at + i) else Ok tt) (lt-ltb i (length (drop at (map f xs))) (omega (arith, less, length-map xs f, length-drop at (map f xs))))
+  end-here less = ap (λ (b : Bool). if b then Err (at + i) else Ok tt) (lt-ltb i (length (drop at (map f xs)))
+      (omega (arith, less, length-map xs f, length-drop at (map f xs))))
 
   pub end-past : length xs ≤ at + i → end_in at (drop at (map f xs)) i ≡ Ok tt
   end-past past = end_back at i (drop at (map f xs)) (omega (arith, past, length-map xs f, length-drop at (map f xs)))

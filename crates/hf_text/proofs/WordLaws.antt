@@ -22,39 +22,44 @@ abbrev Reader : List (List ℕ) → (ℕ → List (List ℕ) → Result Command 
 Reader = IsReader IsCommand words_of Reads
 
 -- no word stands behind those of a command
-command_ends : (command : Command) (i : ℕ) → IsCommand command → length (words_of command) ≡ i → Reader (words_of command) (λ at words. end_in at words i and_then λ end. Ok command)
+command_ends : (command : Command) (i : ℕ) → IsCommand command → length (words_of command) ≡ i
+    → Reader (words_of command) (λ at words. end_in at words i and_then λ end. Ok command)
 command_ends command i fits here = ends IsCommand words_of Reads command (words_of command) fits refl (fits, refl) i here
 
-input_form : (name : List ℕ) (make : List ℕ → Command) → ((input : List ℕ) → IsCommand (make input)) → ((input : List ℕ) → words_of (make input) ≡ name ∷ input ∷ []) → IsCommandForm (with_input name make)
+input_form : (name : List ℕ) (make : List ℕ → Command) → ((input : List ℕ) → IsCommand (make input))
+    → ((input : List ℕ) → words_of (make input) ≡ name ∷ input ∷ []) → IsCommandForm (with_input name make)
 input_form name make fits is =
-    one_more names (name ∷ []) _ (λ input any. ends IsCommand words_of Reads (make input) (name ∷ input ∷ []) (fits input) (is input) (fits input, sym (is input)) 2 refl) 1 [] tt refl
+    one_more names (name ∷ []) (λ input a.
+    ends IsCommand words_of Reads (make input) (name ∷ input ∷ []) (fits input) (is input) (fits input, sym (is input)) 2 refl)
+    1 refl
 
 extracts : IsCommandForm extract_form
 extracts =
-    one_more names (codes "extract" ∷ []) _ (λ input any.
-    one_more numbers (codes "extract" ∷ input ∷ []) _ (λ id small.
-    one_more names (codes "extract" ∷ input ∷ decimal id ∷ []) _ (λ out any. command_ends (Extract input id out) 4 small refl)
-    3 [] tt refl) 2 0 (omega arith) refl) 1 [] tt refl
+    one_more names (codes "extract" ∷ []) (λ input a.
+    one_more numbers (codes "extract" ∷ input ∷ []) (λ id b.
+    one_more names (codes "extract" ∷ input ∷ decimal id ∷ []) (λ out c. command_ends (Extract input id out) 4 b refl)
+    3 refl) 2 refl) 1 refl
 
 trials : IsCommandForm trial_form
 trials =
-    one_more numbers (codes "trial" ∷ []) _ (λ seed small.
-    one_more counts (codes "trial" ∷ decimal seed ∷ []) _ (λ n few.
-    one_more names (codes "trial" ∷ decimal seed ∷ decimal n ∷ []) _ (λ out any. command_ends (Trial seed n out) 4 (small, few) refl)
-    3 [] tt refl) 2 1 (omega arith, omega arith) refl) 1 0 (omega arith) refl
+    one_more numbers (codes "trial" ∷ []) (λ seed a.
+    one_more counts (codes "trial" ∷ decimal seed ∷ []) (λ n b.
+    one_more names (codes "trial" ∷ decimal seed ∷ decimal n ∷ []) (λ out c. command_ends (Trial seed n out) 4 (a, b) refl)
+    3 refl) 2 refl) 1 refl
 
-bare_ends : (input out : List ℕ) (bare : Bool) → bare ≡ true → Reader (codes "redact" ∷ input ∷ out ∷ codes "bare" ∷ []) (λ at words. end_in at words 4 and_then λ end. Ok (Redact input out bare))
+bare_ends : (input out : List ℕ) (bare : Bool) → bare ≡ true
+    → Reader (codes "redact" ∷ input ∷ out ∷ codes "bare" ∷ []) (λ at words. end_in at words 4 and_then λ end. Ok (Redact input out bare))
 bare_ends input out true is = command_ends (Redact input out true) 4 tt refl
 bare_ends input out false is = absurd (cc)
 
 -- the words end, or go on with `bare`
 redacts : IsCommandForm redact_form
 redacts =
-    one_more names (codes "redact" ∷ []) _ (λ input any.
-    one_more names (codes "redact" ∷ input ∷ []) _ (λ out any.
+    one_more names (codes "redact" ∷ []) (λ input a.
+    one_more names (codes "redact" ∷ input ∷ []) (λ out b.
     ends_or IsCommand words_of Reads (Redact input out false) (codes "redact" ∷ input ∷ out ∷ []) tt refl (tt, refl) _
-    (one_more bares (codes "redact" ∷ input ∷ out ∷ []) _ (λ bare is. bare_ends input out bare is) 3 true refl refl) 3 refl)
-    2 [] tt refl) 1 [] tt refl
+    (one_more bares (codes "redact" ∷ input ∷ out ∷ []) (bare_ends input out) 3 refl) 3 refl)
+    2 refl) 1 refl
 
 -- edits stand behind the files
 module _ (input out : List ℕ) where
@@ -67,7 +72,8 @@ module _ (input out : List ℕ) where
   front_first : (words rest : List (List ℕ)) → words ≡ front ++ rest → words ≡ front ++ drop 3 words
   front_first words rest here = here ∙ ap (λ (l : List (List ℕ)). front ++ l) (sym (ap (drop 3) here))
 
-  edits_read_so : (place : ℕ) (words rest : List (List ℕ)) (command : Command) (read : Result (List EditWord) ℕ) → words ≡ front ++ rest → edits_read EDITS place (drop 3 words) ≡ read → all_edits read ≡ Ok command
+  edits_read_so : (place : ℕ) (words rest : List (List ℕ)) (command : Command) (read : Result (List EditWord) ℕ) → words ≡ front ++ rest
+      → edits_read EDITS place (drop 3 words) ≡ read → all_edits read ≡ Ok command
       → Reads words command
   edits_read_so place words rest command (Err at) here r e = absurd (cc)
   edits_read_so place words rest command (Ok edits) here r e =
@@ -85,7 +91,8 @@ module _ (input out : List ℕ) where
   }
 
   -- no edits go on as these words do
-  edits_refused : (place k : ℕ) (words others : List (List ℕ)) (command : Command) (read : Result (List EditWord) ℕ) → ((j : ℕ) → EditsBegin EDITS (drop 3 words) j → j ≤ k) → Fronts (suc (3 + k)) words others
+  edits_refused : (place k : ℕ) (words others : List (List ℕ)) (command : Command) (read : Result (List EditWord) ℕ)
+      → ((j : ℕ) → EditsBegin EDITS (drop 3 words) j → j ≤ k) → Fronts (suc (3 + k)) words others
       → edits_read EDITS place (drop 3 others) ≡ read → all_edits read ≡ Ok command → ⊥
   edits_refused place k words others command (Err at) most f r e = absurd (cc)
   edits_refused place k words others command (Ok edits) most f r e =
@@ -95,7 +102,8 @@ module _ (input out : List ℕ) where
       let small = most (suc k) (record { edits = edits; fits = all.fits; few = all.few; fronts = subst (Fronts (suc k) (drop 3 words)) all.whole behind }) in
       absurd (omega (arith, small))
 
-  edits_stop_so : (at p : ℕ) (words rest : List (List ℕ)) (read : Result (List EditWord) ℕ) → words ≡ front ++ rest → edits_read EDITS (at + 3) (drop 3 words) ≡ read → all_edits read ≡ Err p
+  edits_stop_so : (at p : ℕ) (words rest : List (List ℕ)) (read : Result (List EditWord) ℕ) → words ≡ front ++ rest
+      → edits_read EDITS (at + 3) (drop 3 words) ≡ read → all_edits read ≡ Err p
       → Stops IsCommand words_of (λ (l : List (List ℕ)). all_edits (edits_read EDITS (at + 3) (drop 3 l))) (length front) words at p
   edits_stop_so at p words rest (Ok edits) here r e = absurd (cc)
   edits_stop_so at p words rest (Err q) here r e =
@@ -117,16 +125,19 @@ module _ (input out : List ℕ) where
   }
 
 edit_files : IsCommandForm edit_form
-edit_files =
-    one_more names (codes "edit" ∷ []) _ (λ input any.
-    one_more names (codes "edit" ∷ input ∷ []) _ (λ out any. edits_behind input out)
-    2 [] tt refl) 1 [] tt refl
+edit_files = one_more names (codes "edit" ∷ []) (λ input a. one_more names (codes "edit" ∷ input ∷ []) (λ out b. edits_behind input out) 2 refl) 1 refl
+
+boxes_form : IsCommandForm (with_input (codes "boxes") Boxes)
+boxes_form = input_form (codes "boxes") Boxes (λ input. tt) (λ input. refl)
+
+list_form : IsCommandForm (with_input (codes "list") ListFile)
+list_form = input_form (codes "list") ListFile (λ input. tt) (λ input. refl)
+
+check_form : IsCommandForm (with_input (codes "check") CheckFile)
+check_form = input_form (codes "check") CheckFile (λ input. tt) (λ input. refl)
 
 are_forms : AllByRecursion IsCommandForm (edit_form ∷ short_forms)
-are_forms = (
-  edit_files,
-  (input_form (codes "boxes") Boxes (λ input. tt) (λ input. refl), (input_form (codes "list") ListFile (λ input. tt) (λ input. refl), (input_form (codes "check") CheckFile (λ input. tt) (λ input. refl), (extracts, (redacts, (trials, tt)))))),
-)
+are_forms = (edit_files, (boxes_form, (list_form, (check_form, (extracts, (redacts, (trials, tt)))))))
 
 -- ---- from the command to its words
 
@@ -147,7 +158,12 @@ words-command (Extract input id out) fits =
     ) refl
 words-command (EditFile input out edits) fits =
     let rest : List (List ℕ) = flat_map words_of_edit edits in
-    rw (operand_back names 0 (codes "edit" ∷ []) input (out ∷ rest) tt, operand_back names 0 (codes "edit" ∷ input ∷ []) out rest tt, edits_read-words EDITS 3 edits fits.0 fits.1) refl
+    rw (
+      operand_back names 0 (codes "edit" ∷ []) input (out ∷ rest) tt,
+      operand_back names 0
+          (codes "edit" ∷ input ∷ []) out rest tt,
+      edits_read-words EDITS 3 edits fits.0 fits.1,
+    ) refl
 words-command (Redact input out false) fits =
     rw (operand_back names 0 (codes "redact" ∷ []) input (out ∷ []) tt, operand_back names 0 (codes "redact" ∷ input ∷ []) out [] tt) refl
 words-command (Redact input out true) fits =
@@ -199,7 +215,8 @@ to_begins words k b =
     (b.value, b.fits, drop k whole, ap (λ (l : List (List ℕ)). l ++ drop k whole) b.fronts.same ∙ take-append-drop k whole, b.fronts.within)
 
 command_stop : (words : List (List ℕ)) (p : ℕ) → command_read words ≡ Err p → StopsAt (CommandBegins words) 0 p
-command_stop words p e = stop_at command_read words 0 p words-command (words_stop IsCommand words_of Reads (Boxes []) tt (edit_form ∷ short_forms) 0 p words are_forms e)
+command_stop words p e = stop_at command_read words 0 p words-command (words_stop IsCommand words_of Reads (Boxes []) tt
+    (edit_form ∷ short_forms) 0 p words are_forms e)
 
 pub usage-at : (words : List (List ℕ)) (p : ℕ) → command_read words ≡ Err p → IsUsageAt words p
 usage-at words p e =
@@ -210,7 +227,8 @@ usage-at words p e =
 pub usage-none : (words : List (List ℕ)) (p : ℕ) → command_read words ≡ Err p → (command : Command) → Reads words command → ⊥
 usage-none words p e command r = let read = reads-command words command r in absurd (cc)
 
-pub at-usage : (words : List (List ℕ)) (p : ℕ) (read : Result Command ℕ) → command_read words ≡ read → ((command : Command) → Reads words command → ⊥) → IsUsageAt words p → read ≡ Err p
+pub at-usage : (words : List (List ℕ)) (p : ℕ) (read : Result Command ℕ) → command_read words ≡ read → ((command : Command) → Reads words command → ⊥)
+    → IsUsageAt words p → read ≡ Err p
 at-usage words p (Ok command) e none is = absurd (none command (command-reads words command e))
 at-usage words p (Err q) e none is =
     let other = usage-at words q e in
@@ -236,7 +254,8 @@ module _ {X : Type 0} (f : X → List ℕ) where
   edit_long (x ∷ y ∷ z ∷ xs) long = refl
 
 -- what is answered of edits that are not read
-pub edits_fault : (words : List (List ℕ)) (input out : List ℕ) (whole : Result Command ℕ) (read : Result (List EditWord) ℕ) (fault : WordsFault) → whole ≡ all_edits input out read → AreRead words read (Err fault)
+pub edits_fault : (words : List (List ℕ)) (input out : List ℕ) (whole : Result Command ℕ) (read : Result (List EditWord) ℕ) (fault : WordsFault)
+    → whole ≡ all_edits input out read → AreRead words read (Err fault)
     → IsRead words whole (Err fault)
 edits_fault words input out whole read (Usage at) is e = is ∙ ap (all_edits input out) e
 edits_fault words input out whole (Ok edits) NoMemory is e = ap is_ok is

@@ -1,5 +1,5 @@
 -- Worked words.
-use Rattle.std.specs.Prelude.{ℕ, List, [], ◌∷◌, ◌==◌, codes, replicate}
+use Rattle.std.specs.Prelude.{ℕ, List, [], ◌∷◌, ◌++◌, ◌==◌, codes, replicate}
 use Rattle.std.specs.List.{flat_map, slice_split}
 use Rattle.hf_box.specs.Literals.{four}
 use Rattle.hf_text.specs.Words.{EditWord, Remove, Exif, Xmp, Thumb, Primary, Rotate, Mirror, Crop, Hide, Show, Drop, words_of_edit}
@@ -23,6 +23,12 @@ each_edit =
     ∷ Show 12
     ∷ Drop 13 (four "irot")
     ∷ []
+
+-- and its words, where one file has an empty name
+unfoldable pub each_edit_words : List (List ℕ)
+each_edit_words =
+    spaced (codes "remove 0 exif 1 remove xmp 2  thumb 3 03 primary 4294967295 rotate 5 3 mirror 6 1")
+    ++ spaced (codes "crop 7 8 9 10 4294967295 hide 11 show 12 drop 13 irot")
 
 -- a command of so many edits
 unfoldable pub many_edits : ℕ → List (List ℕ)

@@ -211,7 +211,7 @@ fn check_says_one_of_two_lines(rt: HostRuntime) -> Result<(), Fail> {
     let mut desk = MemoryDesk::new(rt.alloc());
     assert!(rt; say_check(true, &mut desk).is_ok());
     assert!(rt; say_check(false, &mut desk).is_ok());
-    assert_eq!(rt; desk.said(), b"canonical\nnot canonical\n");
+    assert_eq!(rt; desk.said(), "canonical\nnot canonical\n".as_bytes());
     Ok(())
 }
 

@@ -2,7 +2,7 @@
 
 ghost use Rattle.std.specs.Prelude.{◌≡◌, ◌∷◌, [], Ok, Err, true, false, codes};
 ghost use Rattle.hf_text.specs.Words.{Boxes, ListFile, CheckFile, Extract, EditFile, Redact, Trial, command_read, edits_read};
-ghost use Rattle.hf_text.specs.WorkedWords.{each_edit, many_edits, spaced};
+ghost use Rattle.hf_text.specs.WorkedWords.{each_edit, each_edit_words, many_edits, spaced};
 
 /// Words that are no command, and the place of the first that no command has there.
 pub fn usage_is_told()
@@ -40,5 +40,5 @@ pub fn commands_are_read()
     ensures bare { command_read (spaced (codes "redact a b bare")) ≡ Ok (Redact (codes "a") (codes "b") true) }
     ensures trial { command_read (spaced (codes "trial 4294967295 256 b")) ≡ Ok (Trial 4294967295 256 (codes "b")) }
     ensures none { command_read (spaced (codes "edit a b")) ≡ Ok (EditFile (codes "a") (codes "b") []) }
-    ensures edits { edits_read 11 0 (spaced (codes "remove 0 exif 1 remove xmp 2  thumb 3 03 primary 4294967295 rotate 5 3 mirror 6 1 crop 7 8 9 10 4294967295 hide 11 show 12 drop 13 irot")) ≡ Ok each_edit }
+    ensures edits { edits_read 11 0 each_edit_words ≡ Ok each_edit }
 {}

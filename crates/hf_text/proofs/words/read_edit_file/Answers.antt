@@ -12,7 +12,8 @@ pub returns-in_err-edits-clause-read : goal.returns-in_err-edits-clause-read
 returns-in_err-edits-clause-read c =
     let words = map string_bytes c.args.words.now in
     let p = err_from_is_err_and c.from_residual.result c.from_residual.ensures.1 in
-    rw (p.1, p.2) (edits_fault words (get_or words 1 []) (get_or words 2 []) (edit_form.read 0 words) (edits_read EDITS 3 (drop 3 words)) c.in_err-edits.field-0.0 (edit_long string_bytes c.args.words.now (omega arith)) c.in_err-edits.ensures.read)
+    rw (p.1, p.2) (edits_fault words (get_or words 1 []) (get_or words 2 []) (edit_form.read 0 words)
+    (edits_read EDITS 3 (drop 3 words)) c.in_err-edits.field-0.0 (edit_long string_bytes c.args.words.now (omega arith)) c.in_err-edits.ensures.read)
 
 pub returns-clause-read : goal.returns-clause-read
 returns-clause-read c =
