@@ -1,237 +1,159 @@
 -- The words of one edit.
-use Rattle.std.proofs.Common.{◌≡◌, ◌≤◌, ◌<◌, ◌+◌, ℕ, zero, suc, Bool, true, false, List, [], ◌∷◌, ◌++◌, length, drop, refl, sym, ap, subst, ◌∙◌, arith, inl, inr}
-use Rattle.std.specs.Prelude.{Result, Ok, Err, codes, decimal, if◌then◌else◌}
+use Rattle.std.proofs.Common.{◌≡◌, ℕ, List, [], ◌∷◌, ◌++◌, length, drop, refl, sym, ap, ◌∙◌, arith}
+use Rattle.std.specs.Prelude.{Ok, Err, codes, decimal}
 use Rattle.std.specs.List.{AllByRecursion}
-use Rattle.std.specs.Str.{bytes_eq}
-use Rattle.std.proofs.lemmas.Bool.{cases_lt}
-use Rattle.std.proofs.lemmas.List.{append-nil, drop-drop}
-use Rattle.std.proofs.lemmas.Slice.Eq.{bytes_eq-Decides}
+use Rattle.std.proofs.lemmas.List.{append-nil, drop_at}
 use Rattle.hf_base.specs.declared.four.FourCc.{FourCc}
-use Rattle.hf_edit.specs.Edits.{Edit, Remove, Primary, Hide, Show, Drop}
-use Rattle.hf_box.specs.Literals.{four}
-use Rattle.hf_text.specs.Words.{Form, IsEdit, IsId, IsKind, ◌and_then◌, edit_read, form_read, forms, id_read, kind_read, with_id, with_kind, words_of_edit}
-use Rattle.hf_text.proofs.Fronts.{Fronts, Fronts-none, Fronts-behind, Fronts-fewer, Fronts-first, Fronts-second, StopsAt}
-use Rattle.hf_text.proofs.Operands.{id_of-decimal, id_reads, id_same, id_stops, kind_of-kind, kind_reads, kind_same, kind_stops}
+use Rattle.hf_text.specs.Words.{EditWord, Remove, Exif, Xmp, Thumb, Primary, Rotate, Mirror, Crop, Hide, Show, Drop, Form, IsEdit, IsNumber, IsKind, edit_forms, edit_read, words_of_edit, with_id, with_number, with_four, with_kind, with_file}
+use Rattle.hf_text.proofs.Fronts.{StopsAt}
+use Rattle.hf_text.proofs.Operands.{numbers, kinds, names, operand_back}
+use Rattle.hf_text.proofs.Readers.{IsForm, IsReader, Starts, gives, one_more, stop_at, words_reads, words_stop}
 
 -- the first k words are those of an edit
-pub record EditBegins (words : List (List ℕ)) (k : ℕ) : Type 0 where
-  pub edit : Edit
-  pub fits : IsEdit edit
-  pub fronts : Fronts k words (words_of_edit edit)
+abbrev pub EditBegins : List (List ℕ) → ℕ → Type 0
+EditBegins = Starts IsEdit words_of_edit
 
 -- the words of the edit stand first
-pub record EditReads (words : List (List ℕ)) (edit : Edit) : Type 0 where
+pub record EditReads (words : List (List ℕ)) (edit : EditWord) : Type 0 where
   pub fits : IsEdit edit
   pub whole : words ≡ words_of_edit edit ++ drop (length (words_of_edit edit)) words
 
--- where reading stops: it looks at no word behind that one
-pub record Stops (read : List (List ℕ) → Result Edit ℕ) (name : List ℕ) (words : List (List ℕ)) (at p : ℕ) : Type 0 where
-  pub k : ℕ
-  pub place : p ≡ at + k
-  pub begins : EditBegins (name ∷ words) k
-  pub same : (others : List (List ℕ)) → Fronts k words others → read others ≡ Err p
+first_words : (own words rest : List (List ℕ)) → words ≡ own ++ rest → words ≡ own ++ drop (length own) words
+first_words own words rest is = is ∙ ap (λ (l : List (List ℕ)). own ++ l) (sym (drop_at own rest (length own) refl) ∙ sym (ap (drop (length own)) is))
 
--- a form reads the words of the edits with its name, and no others
-pub record IsForm (form : Form) : Type 0 where
-  pub reads : (at : ℕ) (words : List (List ℕ)) (edit : Edit) → form.read at words ≡ Ok edit → EditReads (form.name ∷ words) edit
-  pub stops : (at p : ℕ) (words : List (List ℕ)) → form.read (at + 1) words ≡ Err p → Stops (form.read (at + 1)) form.name words at p
+-- no more words are read
+edit_gives : (edit : EditWord) (front : List (List ℕ)) → IsEdit edit → words_of_edit edit ≡ front
+    → IsReader IsEdit words_of_edit EditReads front (λ at words. Ok edit)
+edit_gives edit front fits own =
+    gives IsEdit words_of_edit EditReads edit front fits own (λ words rest here. record {
+      fits = fits;
+      whole = first_words (words_of_edit edit) words rest
+          (here ∙ ap (λ (l : List (List ℕ)). l ++ rest) (sym own));
+    })
 
-begins_as : (words own : List (List ℕ)) (k : ℕ) (edit : Edit) → IsEdit edit → words_of_edit edit ≡ own → Fronts k words own → EditBegins words k
-begins_as words own k edit fits is f = record { edit = edit; fits = fits; fronts = rw is f }
+abbrev IsEditForm : Form EditWord → Type 0
+IsEditForm = IsForm IsEdit words_of_edit EditReads
 
-reads_as : (words own : List (List ℕ)) (edit other : Edit) → IsEdit edit → words_of_edit edit ≡ own → words ≡ own ++ drop (length own) words → edit ≡ other → EditReads words other
-reads_as words own edit other fits is whole same =
-    subst (EditReads words) same (record { fits = fits; whole = subst (λ (l : List (List ℕ)). words ≡ l ++ drop (length l) words) (sym is) whole })
+module _ (name : List ℕ) where
+  id_form : (make : ℕ → EditWord) → ((id : ℕ) → IsNumber id → IsEdit (make id)) → ((id : ℕ) → words_of_edit (make id) ≡ name ∷ decimal id ∷ [])
+      → IsEditForm (with_id name make)
+  id_form make fits is = one_more numbers (name ∷ []) (λ id small. edit_gives (make id) _ (fits id small) (is id)) 1 refl
 
-name_first : (name : List ℕ) (words others : List (List ℕ)) → Fronts 1 (name ∷ words) (name ∷ others)
-name_first name words others = record { same = refl; within = omega arith; short = omega arith }
+  number_form : (make : ℕ → ℕ → EditWord) → ((id n : ℕ) → IsNumber id → IsNumber n → IsEdit (make id n))
+      → ((id n : ℕ) → words_of_edit (make id n) ≡ name ∷ decimal id ∷ decimal n ∷ []) → IsEditForm (with_number name make)
+  number_form make fits is =
+      one_more numbers (name ∷ []) (λ id a.
+      one_more numbers (name ∷ decimal id ∷ []) (λ n b. edit_gives (make id n) _ (fits id n a b) (is id n)) 2 refl) 1 refl
 
-id_second : (name id : List ℕ) (words others : List (List ℕ)) → words ≡ id ∷ drop 1 words → Fronts 2 (name ∷ words) (name ∷ id ∷ others)
-id_second name id words others is = rw is (record { same = refl; within = omega arith; short = omega arith })
+  kind_form : (make : ℕ → FourCc → EditWord) → ((id : ℕ) (kind : FourCc) → IsNumber id → IsKind kind → IsEdit (make id kind))
+      → ((id : ℕ) (kind : FourCc) → words_of_edit (make id kind) ≡ name ∷ decimal id ∷ kind.0 ∷ []) → IsEditForm (with_kind name make)
+  kind_form make fits is =
+      one_more numbers (name ∷ []) (λ id a.
+      one_more kinds (name ∷ decimal id ∷ []) (λ kind b. edit_gives (make id kind) _ (fits id kind a b) (is id kind)) 2 refl) 1 refl
 
-module _ (name : List ℕ) (make : ℕ → Edit) (fits : (id : ℕ) → IsId id → IsEdit (make id)) (is : (id : ℕ) → words_of_edit (make id) ≡ name ∷ decimal id ∷ []) where
-  id_edit : (at : ℕ) (words : List (List ℕ)) (edit : Edit) (r : Result ℕ ℕ) → id_read at words ≡ r → (r and_then λ id. Ok (make id)) ≡ Ok edit → EditReads (name ∷ words) edit
-  id_edit at words edit (Err p) read e = absurd (cc)
-  id_edit at words edit (Ok id) read e =
-      let own = id_reads at words id read in
-      reads_as (name ∷ words) (name ∷ decimal id ∷ []) (make id) edit (fits id own.0) (is id) (ap (λ (l : List (List ℕ)). name ∷ l) own.1) cc
+  file_form : (make : ℕ → List ℕ → EditWord) → ((id : ℕ) (file : List ℕ) → IsNumber id → IsEdit (make id file))
+      → ((id : ℕ) (file : List ℕ) → words_of_edit (make id file) ≡ name ∷ decimal id ∷ file ∷ []) → IsEditForm (with_file name make)
+  file_form make fits is =
+      one_more numbers (name ∷ []) (λ id a.
+      one_more names (name ∷ decimal id ∷ []) (λ file b. edit_gives (make id file) _ (fits id file a) (is id file)) 2 refl) 1 refl
 
-  no_id : (at p : ℕ) (words : List (List ℕ)) (r : Result ℕ ℕ) → id_read (at + 1) words ≡ r → (r and_then λ id. Ok (make id)) ≡ Err p
-      → Stops ((with_id name make).read (at + 1)) name words at p
-  no_id at p words (Ok id) read e = absurd (cc)
-  no_id at p words (Err q) read e =
-      let same : q ≡ p = cc in
-      record {
-        k = 1;
-        place = omega (arith, same, id_stops (at + 1) q words read);
-        begins = begins_as (name ∷ words) (name ∷ decimal 0 ∷ []) 1 (make 0) (fits 0 (omega arith)) (is 0) (name_first name words _);
-        same = λ others f. ap (λ (r : Result ℕ ℕ). r and_then λ id. Ok (make id)) (id_same (at + 1) words others f ∙ read) ∙ ap Err same;
-      }
+crops : IsEditForm (with_four (codes "crop") Crop)
+crops =
+    one_more numbers (codes "crop" ∷ []) (λ id a.
+    one_more numbers (codes "crop" ∷ decimal id ∷ []) (λ x b.
+    one_more numbers (codes "crop" ∷ decimal id ∷ decimal x ∷ []) (λ y c.
+    one_more numbers (codes "crop" ∷ decimal id ∷ decimal x ∷ decimal y ∷ []) (λ w d.
+    one_more numbers (codes "crop" ∷ decimal id ∷ decimal x ∷ decimal y ∷ decimal w ∷ []) (λ h e.
+    edit_gives (Crop id x y w h) _ (a, b, c, d, e) refl)
+    5 refl) 4 refl) 3 refl) 2 refl) 1 refl
 
-  pub id_form : IsForm (with_id name make)
-  id_form = record {
-    reads = λ at words edit e. id_edit at words edit (id_read at words) refl e;
-    stops = λ at p words e. no_id at p words (id_read (at + 1) words) refl e;
-  }
+removes : IsEditForm (with_id (codes "remove") Remove)
+removes = id_form (codes "remove") Remove (λ id a. a) (λ id. refl)
 
-module _ (name : List ℕ) (make : ℕ → FourCc → Edit) (fits : (id : ℕ) (kind : FourCc) → IsId id → IsKind kind → IsEdit (make id kind))
-    (is : (id : ℕ) (kind : FourCc) → words_of_edit (make id kind) ≡ name ∷ decimal id ∷ kind.0 ∷ []) where
-  -- any type
-  abbrev some : FourCc
-  some = four "free"
+exifs : IsEditForm (with_file (codes "exif") Exif)
+exifs = file_form (codes "exif") Exif (λ id file a. a) (λ id file. refl)
 
-  kind_edit : (at id : ℕ) (words : List (List ℕ)) (edit : Edit) → IsId id → words ≡ decimal id ∷ drop 1 words → (r : Result FourCc ℕ) → kind_read (at + 1) (drop 1 words) ≡ r
-      → (r and_then λ kind. Ok (make id kind)) ≡ Ok edit → EditReads (name ∷ words) edit
-  kind_edit at id words edit small first (Err p) read e = absurd (cc)
-  kind_edit at id words edit small first (Ok kind) read e =
-      let own = kind_reads (at + 1) (drop 1 words) kind read in
-      reads_as (name ∷ words) (name ∷ decimal id ∷ kind.0 ∷ []) (make id kind) edit (fits id kind small own.0) (is id kind)
-      (ap (λ (l : List (List ℕ)). name ∷ l) (first ∙ ap (λ (l : List (List ℕ)). decimal id ∷ l) (own.1 ∙ ap (λ (l : List (List ℕ)). kind.0 ∷ l) (drop-drop 1 1 words)))) cc
+xmps : IsEditForm (with_file (codes "xmp") Xmp)
+xmps = file_form (codes "xmp") Xmp (λ id file a. a) (λ id file. refl)
 
-  id_kind_edit : (at : ℕ) (words : List (List ℕ)) (edit : Edit) (r : Result ℕ ℕ) → id_read at words ≡ r
-      → (r and_then λ id. kind_read (at + 1) (drop 1 words) and_then λ kind. Ok (make id kind)) ≡ Ok edit → EditReads (name ∷ words) edit
-  id_kind_edit at words edit (Err p) read e = absurd (cc)
-  id_kind_edit at words edit (Ok id) read e =
-      let own = id_reads at words id read in
-      kind_edit at id words edit own.0 own.1 (kind_read (at + 1) (drop 1 words)) refl e
+thumbs : IsEditForm (with_file (codes "thumb") Thumb)
+thumbs = file_form (codes "thumb") Thumb (λ id file a. a) (λ id file. refl)
 
-  no_kind : (at p id : ℕ) (words : List (List ℕ)) → id_read (at + 1) words ≡ Ok id → (r : Result FourCc ℕ) → kind_read (at + 1 + 1) (drop 1 words) ≡ r
-      → (r and_then λ kind. Ok (make id kind)) ≡ Err p → Stops ((with_kind name make).read (at + 1)) name words at p
-  no_kind at p id words first (Ok kind) read e = absurd (cc)
-  no_kind at p id words first (Err q) read e =
-      let own = id_reads (at + 1) words id first in
-      let same : q ≡ p = cc in
-      record {
-        k = 2;
-        place = omega (arith, same, kind_stops (at + 1 + 1) q (drop 1 words) read);
-        begins = begins_as (name ∷ words) (name ∷ decimal id ∷ some.0 ∷ []) 2 (make id some) (fits id some own.0 refl) (is id some) (id_second name (decimal id) words _ own.1);
-        same = λ others f.
-            ap (λ (r : Result ℕ ℕ). r and_then λ id. kind_read (at + 1 + 1) (drop 1 others) and_then λ kind. Ok (make id kind)) (id_same (at + 1) words others (Fronts-fewer 1 (omega arith) f) ∙ first)
-            ∙ ap (λ (r : Result FourCc ℕ). r and_then λ kind. Ok (make id kind)) (kind_same (at + 1 + 1) (drop 1 words) (drop 1 others) (Fronts-second words others f) ∙ read)
-            ∙ ap Err same;
-      }
+primaries : IsEditForm (with_id (codes "primary") Primary)
+primaries = id_form (codes "primary") Primary (λ id a. a) (λ id. refl)
 
-  neither : (at p : ℕ) (words : List (List ℕ)) (r : Result ℕ ℕ) → id_read (at + 1) words ≡ r
-      → (r and_then λ id. kind_read (at + 1 + 1) (drop 1 words) and_then λ kind. Ok (make id kind)) ≡ Err p → Stops ((with_kind name make).read (at + 1)) name words at p
-  neither at p words (Ok id) read e = no_kind at p id words read (kind_read (at + 1 + 1) (drop 1 words)) refl e
-  neither at p words (Err q) read e =
-      let same : q ≡ p = cc in
-      record {
-        k = 1;
-        place = omega (arith, same, id_stops (at + 1) q words read);
-        begins = begins_as (name ∷ words) (name ∷ decimal 0 ∷ some.0 ∷ []) 1 (make 0 some) (fits 0 some (omega arith) refl) (is 0 some) (name_first name words _);
-        same = λ others f.
-            ap (λ (r : Result ℕ ℕ). r and_then λ id. kind_read (at + 1 + 1) (drop 1 others) and_then λ kind. Ok (make id kind)) (id_same (at + 1) words others f ∙ read) ∙ ap Err same;
-      }
+rotates : IsEditForm (with_number (codes "rotate") Rotate)
+rotates = number_form (codes "rotate") Rotate (λ id n a b. (a, b)) (λ id n. refl)
 
-  pub kind_form : IsForm (with_kind name make)
-  kind_form = record {
-    reads = λ at words edit e. id_kind_edit at words edit (id_read at words) refl e;
-    stops = λ at p words e. neither at p words (id_read (at + 1) words) refl e;
-  }
+mirrors : IsEditForm (with_number (codes "mirror") Mirror)
+mirrors = number_form (codes "mirror") Mirror (λ id n a b. (a, b)) (λ id n. refl)
 
-are_forms : AllByRecursion IsForm forms
-are_forms = (
-  id_form (codes "remove") Remove (λ id small. small) (λ id. refl),
-  (
-    id_form (codes "primary") Primary (λ id small. small) (λ id. refl),
-    (
-      id_form (codes "hide") Hide (λ id small. small) (λ id. refl),
-      (
-        id_form (codes "show") Show (λ id small. small) (λ id. refl),
-        (
-          kind_form (codes "drop") Drop (λ id kind small four. (small, four)) (λ id kind. refl),
-          tt,
-        ),
-      ),
-    ),
-  ),
-)
+hides : IsEditForm (with_id (codes "hide") Hide)
+hides = id_form (codes "hide") Hide (λ id a. a) (λ id. refl)
 
-id_words : (make : ℕ → Edit) (at id : ℕ) (rest : List (List ℕ)) → IsId id → (id_read at (decimal id ∷ rest) and_then λ id. Ok (make id)) ≡ Ok (make id)
-id_words make at id rest small = rw (id_of-decimal id small) refl
+shows : IsEditForm (with_id (codes "show") Show)
+shows = id_form (codes "show") Show (λ id a. a) (λ id. refl)
 
-kind_words : (make : ℕ → FourCc → Edit) (at id : ℕ) (kind : FourCc) (rest : List (List ℕ)) → IsId id → IsKind kind
-    → (id_read at (decimal id ∷ kind.0 ∷ rest) and_then λ id. kind_read (at + 1) (kind.0 ∷ rest) and_then λ kind. Ok (make id kind)) ≡ Ok (make id kind)
-kind_words make at id kind rest small four = rw (id_of-decimal id small, kind_of-kind kind four) refl
+drops : IsEditForm (with_kind (codes "drop") Drop)
+drops = kind_form (codes "drop") Drop (λ id kind a b. (a, b)) (λ id kind. refl)
 
-pub edit_read-words : (at : ℕ) (edit : Edit) (rest : List (List ℕ)) → IsEdit edit → edit_read at (words_of_edit edit ++ rest) ≡ Ok edit
-edit_read-words at (Remove id) rest fits = id_words Remove (at + 1) id rest fits
-edit_read-words at (Primary id) rest fits = id_words Primary (at + 1) id rest fits
-edit_read-words at (Hide id) rest fits = id_words Hide (at + 1) id rest fits
-edit_read-words at (Show id) rest fits = id_words Show (at + 1) id rest fits
-edit_read-words at (Drop id kind) rest fits = kind_words Drop (at + 1) id kind rest fits.0 fits.1
+are_forms : AllByRecursion IsEditForm edit_forms
+are_forms = (removes, (exifs, (xmps, (thumbs, (primaries, (rotates, (mirrors, (crops, (hides, (shows, (drops, tt)))))))))))
 
--- ---- any of the forms
+pub edit_reads : (at : ℕ) (words : List (List ℕ)) (edit : EditWord) → edit_read at words ≡ Ok edit → EditReads words edit
+edit_reads at words edit e = words_reads IsEdit words_of_edit EditReads edit_forms at words edit are_forms e
 
-FormReads : List Form → ℕ → List ℕ → List (List ℕ) → Edit → Type 0
-FormReads all at name words edit = form_read all at name words ≡ Ok edit → EditReads (name ∷ words) edit
+-- ---- from the edit to its words
 
-first_reads : (form : Form) (others : List Form) (at : ℕ) (name : List ℕ) (words : List (List ℕ)) (edit : Edit) → IsForm form → FormReads others at name words edit → (b : Bool) → bytes_eq name form.name ≡ b
-    → (if b then form.read (at + 1) words else form_read others at name words) ≡ Ok edit → EditReads (name ∷ words) edit
-unfolding FormReads
-first_reads form others at name words edit own more false is e = more e
-first_reads form others at name words edit own more true is e =
-    let same = (bytes_eq-Decides name form.name).0 is in
-    subst (λ (w : List ℕ). EditReads (w ∷ words) edit) (sym same) (own.reads (at + 1) words edit e)
+-- each word is read where it stands
+pub edit_read-words : (at : ℕ) (edit : EditWord) (rest : List (List ℕ)) → IsEdit edit → edit_read at (words_of_edit edit ++ rest) ≡ Ok edit
+edit_read-words at (Remove id) rest fits = rw (operand_back numbers at (codes "remove" ∷ []) id rest fits) refl
+edit_read-words at (Exif id file) rest fits =
+    rw (
+      operand_back numbers at (codes "exif" ∷ []) id (file ∷ rest) fits,
+      operand_back names at (codes "exif" ∷ decimal id ∷ []) file rest tt,
+    ) refl
+edit_read-words at (Xmp id file) rest fits =
+    rw (
+      operand_back numbers at (codes "xmp" ∷ []) id (file ∷ rest) fits,
+      operand_back names at (codes "xmp" ∷ decimal id ∷ []) file rest tt,
+    ) refl
+edit_read-words at (Thumb id file) rest fits =
+    rw (
+      operand_back numbers at (codes "thumb" ∷ []) id (file ∷ rest) fits,
+      operand_back names at (codes "thumb" ∷ decimal id ∷ []) file rest tt,
+    ) refl
+edit_read-words at (Primary id) rest fits = rw (operand_back numbers at (codes "primary" ∷ []) id rest fits) refl
+edit_read-words at (Rotate id n) rest fits =
+    rw (
+      operand_back numbers at (codes "rotate" ∷ []) id (decimal n ∷ rest) fits.0,
+      operand_back numbers at (codes "rotate" ∷ decimal id ∷ []) n rest fits.1,
+    ) refl
+edit_read-words at (Mirror id n) rest fits =
+    rw (
+      operand_back numbers at (codes "mirror" ∷ []) id (decimal n ∷ rest) fits.0,
+      operand_back numbers at (codes "mirror" ∷ decimal id ∷ []) n rest fits.1,
+    ) refl
+edit_read-words at (Crop id x y w h) rest fits =
+    rw (
+      operand_back numbers at (codes "crop" ∷ []) id (decimal x ∷ decimal y ∷ decimal w ∷ decimal h ∷ rest) fits.0,
+      operand_back numbers at (codes "crop" ∷ decimal id ∷ []) x (decimal y ∷ decimal w ∷ decimal h ∷ rest) fits.1,
+      operand_back numbers at (codes "crop" ∷ decimal id ∷ decimal x ∷ []) y (decimal w ∷ decimal h ∷ rest) fits.2,
+      operand_back numbers at (codes "crop" ∷ decimal id ∷ decimal x ∷ decimal y ∷ []) w (decimal h ∷ rest) fits.3,
+      operand_back numbers at (codes "crop" ∷ decimal id ∷ decimal x ∷ decimal y ∷ decimal w ∷ []) h rest fits.4,
+    ) refl
+edit_read-words at (Hide id) rest fits = rw (operand_back numbers at (codes "hide" ∷ []) id rest fits) refl
+edit_read-words at (Show id) rest fits = rw (operand_back numbers at (codes "show" ∷ []) id rest fits) refl
+edit_read-words at (Drop id kind) rest fits =
+    rw (
+      operand_back numbers at (codes "drop" ∷ []) id (kind.0 ∷ rest) fits.0,
+      operand_back kinds at (codes "drop" ∷ decimal id ∷ []) kind rest fits.1,
+    ) refl
 
-forms_read : (all : List Form) (at : ℕ) (name : List ℕ) (words : List (List ℕ)) (edit : Edit) → AllByRecursion IsForm all → FormReads all at name words edit
-unfolding FormReads
-forms_read [] at name words edit are e = absurd (cc)
-forms_read (form ∷ others) at name words edit are e = first_reads form others at name words edit are.0 (forms_read others at name words edit are.1) (bytes_eq name form.name) refl e
-
-pub edit_reads : (at : ℕ) (words : List (List ℕ)) (edit : Edit) → edit_read at words ≡ Ok edit → EditReads words edit
-unfolding FormReads
-edit_reads at [] edit e = absurd (cc)
-edit_reads at (name ∷ words) edit e = forms_read forms at name words edit are_forms e
-
-FormStops : List Form → ℕ → ℕ → List ℕ → List (List ℕ) → Type 0
-FormStops all at p name words = form_read all at name words ≡ Err p → Stops (form_read all at name) name words at p
-
--- reading stops where its first form stops, or another one
-first_stops : (form : Form) (others : List Form) (at p : ℕ) (name : List ℕ) (words : List (List ℕ)) → IsForm form → FormStops others at p name words → (b : Bool) → bytes_eq name form.name ≡ b
-    → (if b then form.read (at + 1) words else form_read others at name words) ≡ Err p → Stops (λ l. if b then form.read (at + 1) l else form_read others at name l) name words at p
-unfolding FormStops
-first_stops form others at p name words own more false is e = more e
-first_stops form others at p name words own more true is e =
-    let same = (bytes_eq-Decides name form.name).0 is in
-    subst (λ (w : List ℕ). Stops (form.read (at + 1)) w words at p) (sym same) (own.stops at p words e)
-
-forms_stop : (all : List Form) (at p : ℕ) (name : List ℕ) (words : List (List ℕ)) → AllByRecursion IsForm all → FormStops all at p name words
-unfolding FormStops
-forms_stop [] at p name words are e = record {
-  k = 0;
-  place = let same : at ≡ p = cc in omega arith;
-  begins = record { edit = Remove 0; fits = omega arith; fronts = Fronts-none _ _ };
-  same = λ others f. e;
-}
-forms_stop (form ∷ others) at p name words are e = first_stops form others at p name words are.0 (forms_stop others at p name words are.1) (bytes_eq name form.name) refl e
-
--- words that go on as these do behind the place are refused there too
-past_refused : (at p j : ℕ) (name : List ℕ) (words whole : List (List ℕ)) (s : Stops (form_read forms at name) name words at p) → s.k < j → Fronts j (name ∷ words) whole → edit_read at whole ≡ Err p
-past_refused at p j name words [] s past f = absurd (omega (arith, past, f.short))
-past_refused at p zero name words (first ∷ others) s past f = absurd (omega (arith, past))
-past_refused at p (suc j) name words (first ∷ others) s past f =
-    rw (Fronts-first f) (s.same others (Fronts-fewer s.k (omega (arith, past)) (Fronts-behind f)))
-
-most_stopped : (at p j : ℕ) (name : List ℕ) (words : List (List ℕ)) (s : Stops (form_read forms at name) name words at p) → EditBegins (name ∷ words) j → j ≤ s.k
-most_stopped at p j name words s b =
-    elim (cases_lt s.k j) [
-      | inr small ↦ small
-      | inl past ↦
-          let refused = past_refused at p j name words (words_of_edit b.edit) s past b.fronts in
-          let read : edit_read at (words_of_edit b.edit) ≡ Ok b.edit = ap (edit_read at) (sym (append-nil (words_of_edit b.edit))) ∙ edit_read-words at b.edit [] b.fits in
-          absurd (cc)
-    ]
+edit_back : (at : ℕ) (edit : EditWord) → IsEdit edit → edit_read at (words_of_edit edit) ≡ Ok edit
+edit_back at edit fits = ap (edit_read at) (sym (append-nil (words_of_edit edit))) ∙ edit_read-words at edit [] fits
 
 pub edit_stops : (at p : ℕ) (words : List (List ℕ)) → edit_read at words ≡ Err p → StopsAt (EditBegins words) at p
-unfolding FormStops
-edit_stops at p [] e = record {
-  k = 0;
-  place = let same : at ≡ p = cc in omega arith;
-  begins = record { edit = Remove 0; fits = omega arith; fronts = Fronts-none _ _ };
-  most = λ j b. omega (arith, b.fronts.within);
-}
-edit_stops at p (name ∷ words) e =
-    let s = forms_stop forms at p name words are_forms e in
-    record { k = s.k; place = s.place; begins = s.begins; most = λ j b. most_stopped at p j name words s b }
+edit_stops at p words e =
+    let s = words_stop IsEdit words_of_edit EditReads (Remove 0) (omega arith) edit_forms at p words are_forms e in
+    stop_at (edit_read at) words at p (edit_back at) s

@@ -1,5 +1,5 @@
 -- Words that begin as others do.
-use Rattle.std.proofs.Common.{◌≡◌, ◌≤◌, ◌+◌, ℕ, suc, List, [], ◌∷◌, ◌++◌, length, take, drop, refl, sym, ap, ◌∙◌, arith, length-append}
+use Rattle.std.proofs.Common.{◌≡◌, ◌≤◌, ◌+◌, ℕ, suc, List, [], ◌∷◌, ◌++◌, length, take, drop, zero, refl, sym, ap, subst, ◌∙◌, arith, length-append}
 use Rattle.std.proofs.lemmas.List.{take_at, take-take, take-append-le, take-append-drop, append_cancel_left}
 use Rattle.std.proofs.Math.Seq.{take-append-add}
 
@@ -16,12 +16,18 @@ pub Fronts-left : {k : ℕ} {words : List (List ℕ)} (a b : List (List ℕ)) �
 Fronts-left {k = k} a b small f = record { same = f.same ∙ take-append-le k a b small; within = f.within; short = small }
 
 pub Fronts-wider : {k : ℕ} {words a : List (List ℕ)} (b : List (List ℕ)) → Fronts k words a → Fronts k words (a ++ b)
-Fronts-wider {k = k} {a = a} b f = record { same = f.same ∙ sym (take-append-le k a b f.short); within = f.within; short = omega (arith, length-append a b, f.short) }
+Fronts-wider {k = k} {a = a} b f = record {
+  same = f.same ∙ sym (take-append-le k a b f.short);
+  within = f.within;
+  short = omega
+      (arith, length-append a b, f.short);
+}
 
 -- words that begin as a, and go on
 pub Fronts-past : {k : ℕ} {words : List (List ℕ)} (a b : List (List ℕ)) → length a ≤ k → Fronts k words (a ++ b) → words ≡ a ++ drop (length a) words
 Fronts-past {k = k} {words = words} a b long f =
-    let first : take (length a) words ≡ a = sym (take-take (length a) k words long) ∙ ap (take (length a)) f.same ∙ take-take (length a) k (a ++ b) long ∙ take_at a b (length a) refl in
+    let first : take (length a) words ≡ a = sym (take-take (length a) k words long) ∙ ap (take (length a)) f.same ∙ take-take (length a) k (a ++ b) long
+    ∙ take_at a b (length a) refl in
     sym (take-append-drop (length a) words) ∙ ap (λ (l : List (List ℕ)). l ++ drop (length a) words) first
 
 pub Fronts-flip : {k : ℕ} {words whole : List (List ℕ)} → Fronts k words whole → Fronts k whole words
@@ -63,7 +69,10 @@ Fronts-first f = let front = f.same in cc
 pub Fronts-behind : {j : ℕ} {word first : List ℕ} {words others : List (List ℕ)} → Fronts (suc j) (word ∷ words) (first ∷ others) → Fronts j words others
 Fronts-behind f = record { same = let front = f.same in cc; within = omega (arith, f.within); short = omega (arith, f.short) }
 
-pub Fronts-second : (words others : List (List ℕ)) → Fronts 2 words others → Fronts 1 (drop 1 words) (drop 1 others)
-Fronts-second [] others f = absurd (omega (arith, f.within))
-Fronts-second (word ∷ words) [] f = absurd (omega (arith, f.short))
-Fronts-second (word ∷ words) (first ∷ others) f = Fronts-behind f
+pub Fronts-drop : (n k : ℕ) (words others : List (List ℕ)) → Fronts (n + k) words others → Fronts k (drop n words) (drop n others)
+Fronts-drop zero k words others f = let same : 0 + k ≡ k = omega arith in subst (λ (n : ℕ). Fronts n words others) same f
+Fronts-drop (suc n) k [] others f = absurd (omega (arith, f.within))
+Fronts-drop (suc n) k (word ∷ words) [] f = absurd (omega (arith, f.short))
+Fronts-drop (suc n) k (word ∷ words) (first ∷ others) f =
+    let one : suc n + k ≡ suc (n + k) = omega arith in
+    Fronts-drop n k words others (Fronts-behind (subst (λ (n : ℕ). Fronts n (word ∷ words) (first ∷ others)) one f))

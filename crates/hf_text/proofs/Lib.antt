@@ -1,9 +1,9 @@
 pub mod EditLaws
 pub mod EditSteps
-pub mod FileWords
 pub mod Forms
 pub mod Fronts
 pub mod Left
 pub mod Operands
+pub mod Readers
 pub mod Strings
 pub mod WordLaws

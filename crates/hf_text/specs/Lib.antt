@@ -1,3 +1,4 @@
+pub mod Answers
 pub mod Commands
 pub mod Lines
 pub mod Listing
@@ -5,3 +6,4 @@ pub mod Parts
 pub mod Texts
 pub mod Words
 pub mod WorkedListings
+pub mod WorkedWords

@@ -3,6 +3,7 @@ use hf_base::kinds::META;
 use hf_base::{FourCc, ReadRefusal};
 use hf_box::BoxRow;
 use hf_desk::MemoryDesk;
+use hf_store::Reason;
 use std::alloc::Global;
 use std::test::Fail;
 
@@ -24,7 +25,7 @@ fn usage_of(read: Result<Command, WordsFault>) -> Option<usize> {
 
 #[test]
 fn words_that_are_no_command_have_a_place(rt: HostRuntime) -> Result<(), Fail> {
-    let cases: [(&[&str], usize); 18] = [
+    let cases: [(&[&str], usize); 31] = [
         (&[], 0),
         (&["show"], 0),
         (&["list"], 1),
@@ -43,6 +44,19 @@ fn words_that_are_no_command_have_a_place(rt: HostRuntime) -> Result<(), Fail> {
         (&["edit", "a", "b", "drop", "1"], 5),
         (&["edit", "a", "b", "drop", "1", "isp"], 5),
         (&["edit", "a", "b", "show", "1", "drop", "1", "ispé"], 7),
+        (&["edit", "a", "b", "rotate", "1", "01"], 5),
+        (&["edit", "a", "b", "thumb", "c", "1"], 4),
+        (&["edit", "a", "b", "xmp", "1"], 5),
+        (&["edit", "a", "b", "crop", "1", "2", "3", "4"], 8),
+        (&["check", "a", "b"], 2),
+        (&["extract", "a", "x", "b"], 2),
+        (&["extract", "a", "1", "b", "c"], 4),
+        (&["redact", "a"], 2),
+        (&["redact", "a", "b", "c"], 3),
+        (&["redact", "a", "b", "bare", "x"], 4),
+        (&["trial", "1", "0", "b"], 2),
+        (&["trial", "1", "257", "b"], 2),
+        (&["trial", "4294967296", "1", "b"], 1),
     ];
     for (words, at) in &cases {
         let words = words_of(rt.alloc(), words)?;
@@ -61,8 +75,29 @@ fn edits_are_read_in_order(rt: HostRuntime) -> Result<(), Fail> {
             "b",
             "remove",
             "4294967295",
+            "exif",
+            "1",
+            "e",
             "show",
             "0",
+            "xmp",
+            "2",
+            "x",
+            "thumb",
+            "3",
+            "t",
+            "rotate",
+            "4",
+            "3",
+            "mirror",
+            "5",
+            "1",
+            "crop",
+            "6",
+            "7",
+            "8",
+            "9",
+            "10",
             "drop",
             "1",
             "irot",
@@ -78,7 +113,19 @@ fn edits_are_read_in_order(rt: HostRuntime) -> Result<(), Fail> {
     assert_eq!(rt; (input, out), (1, 2));
     let expected = [
         EditWord::Remove { id: u32::MAX },
+        EditWord::Exif { id: 1, file: 7 },
         EditWord::Show { id: 0 },
+        EditWord::Xmp { id: 2, file: 12 },
+        EditWord::Thumb { id: 3, file: 15 },
+        EditWord::Rotate { id: 4, quarters: 3 },
+        EditWord::Mirror { id: 5, axis: 1 },
+        EditWord::Crop {
+            id: 6,
+            x: 7,
+            y: 8,
+            w: 9,
+            h: 10,
+        },
         EditWord::Drop {
             id: 1,
             kind: FourCc(*b"irot"),
@@ -87,6 +134,39 @@ fn edits_are_read_in_order(rt: HostRuntime) -> Result<(), Fail> {
         EditWord::Primary { id: 3 },
     ];
     assert_eq!(rt; edits.as_slice(), expected.as_slice());
+    Ok(())
+}
+
+#[test]
+fn commands_name_their_files_by_place(rt: HostRuntime) -> Result<(), Fail> {
+    let cases: [(&[&str], &str); 7] = [
+        (&["boxes", "a"], "Boxes { input: 1 }"),
+        (&["list", "a"], "List { input: 1 }"),
+        (&["check", "a"], "Check { input: 1 }"),
+        (
+            &["extract", "a", "7", "b"],
+            "Extract { input: 1, id: 7, out: 3 }",
+        ),
+        (
+            &["redact", "a", "b"],
+            "Redact { input: 1, out: 2, bare: false }",
+        ),
+        (
+            &["redact", "a", "b", "bare"],
+            "Redact { input: 1, out: 2, bare: true }",
+        ),
+        (
+            &["trial", "0", "256", "b"],
+            "Trial { seed: 0, n: 256, out: 3 }",
+        ),
+    ];
+    for (words, text) in &cases {
+        let words = words_of(rt.alloc(), words)?;
+        let Ok(command) = read_words(rt.alloc(), &words) else {
+            return Err(Fail::from("the words are a command"));
+        };
+        assert_eq!(rt; format!(in rt.alloc(); "{:?}", command)?.as_str(), *text);
+    }
     Ok(())
 }
 
@@ -122,6 +202,64 @@ fn rows_of_several_pages_are_said(rt: HostRuntime) -> Result<(), Fail> {
     assert_eq!(rt; desk.said().len(), 300 * line.len());
     for said in desk.said().chunks_exact(line.len()) {
         assert_eq!(rt; said, line.as_bytes());
+    }
+    Ok(())
+}
+
+#[test]
+fn check_says_one_of_two_lines(rt: HostRuntime) -> Result<(), Fail> {
+    let mut desk = MemoryDesk::new(rt.alloc());
+    assert!(rt; say_check(true, &mut desk).is_ok());
+    assert!(rt; say_check(false, &mut desk).is_ok());
+    assert_eq!(rt; desk.said(), "canonical\nnot canonical\n".as_bytes());
+    Ok(())
+}
+
+#[test]
+fn a_trial_says_its_numbers(rt: HostRuntime) -> Result<(), Fail> {
+    let numbers = TrialNumbers {
+        seed: 1,
+        n: 1,
+        items: 18,
+        bytes: 1217,
+        kept_items: 17,
+        kept_bytes: 1142,
+    };
+    let mut desk = MemoryDesk::new(rt.alloc());
+    assert!(rt; say_trial(&numbers, &mut desk).is_ok());
+    let line = "trial 1 1: 18 items, 1217 bytes; redacted 17 items, 1142 bytes\n";
+    assert_eq!(rt; desk.said(), line.as_bytes());
+    Ok(())
+}
+
+#[test]
+fn reasons_have_their_lines(rt: HostRuntime) -> Result<(), Fail> {
+    let cases = [
+        (Reason::NoItem, "heif: edit 2: NoItem\n"),
+        (Reason::IsPrimary, "heif: edit 2: IsPrimary\n"),
+        (Reason::Needed { by: 49 }, "heif: edit 2: Needed 49\n"),
+        (Reason::NotImage, "heif: edit 2: NotImage\n"),
+        (Reason::IsHidden, "heif: edit 2: IsHidden\n"),
+        (Reason::IsMinor, "heif: edit 2: IsMinor\n"),
+        (Reason::DonorDerived, "heif: edit 2: DonorDerived\n"),
+        (Reason::NoSize, "heif: edit 2: NoSize\n"),
+        (Reason::OutsidePicture, "heif: edit 2: OutsidePicture\n"),
+        (Reason::BadTurn, "heif: edit 2: BadTurn\n"),
+        (Reason::BadAxis, "heif: edit 2: BadAxis\n"),
+        (Reason::NoProperty, "heif: edit 2: NoProperty\n"),
+        (Reason::IsEssential, "heif: edit 2: IsEssential\n"),
+        (Reason::PropsFull, "heif: edit 2: PropsFull\n"),
+        (Reason::KindsFull, "heif: edit 2: KindsFull\n"),
+        (Reason::ItemsFull, "heif: edit 2: ItemsFull\n"),
+        (Reason::IdsFull, "heif: edit 2: IdsFull\n"),
+        (Reason::BodyFull, "heif: edit 2: BodyFull\n"),
+        (Reason::MetaFull, "heif: edit 2: MetaFull\n"),
+    ];
+    for (why, text) in &cases {
+        let refused = Outcome::Refused { edit: 2, why: *why };
+        let line = line_of(rt.alloc(), &refused);
+        assert_eq!(rt; line.ok().ok_or("there is memory")?.as_str(), *text);
+        assert_eq!(rt; status(&refused), 4);
     }
     Ok(())
 }
@@ -167,6 +305,11 @@ fn outcomes_have_their_lines(rt: HostRuntime) -> Result<(), Fail> {
             },
             3,
             "heif: source 0: NoFtyp\n",
+        ),
+        (
+            Outcome::NoSuchItem { id: u32::MAX },
+            5,
+            "heif: no item 4294967295\n",
         ),
         (
             Outcome::TooLong { source: 0 },
