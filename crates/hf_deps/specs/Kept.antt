@@ -1,12 +1,12 @@
 -- Which items a redaction keeps. This is this project's own rule.
-use Rattle.std.specs.Prelude.{ℕ, zero, suc, ◌≡◌, ◌⊎◌, ◌↔◌, Bool, true, false, not, ◌&&◌, ◌||◌, IsTrue, List, [], ◌∷◌, length, map, filter, if◌then◌else◌}
+use Rattle.std.specs.Prelude.{ℕ, ◌≡◌, ◌⊎◌, ◌↔◌, Bool, true, false, not, ◌&&◌, IsTrue, List, [], ◌∷◌, length, map, if◌then◌else◌}
 use Rattle.std.specs.List.{flat_map}
 use Rattle.hf_links.specs.Kinds.{is_minor, is_need}
 use Rattle.hf_store.specs.Changes.{Needs}
 use Rattle.hf_store.specs.Lists.{IsIn}
 use Rattle.hf_store.specs.Store.{RefList, Item, ItemStore, ids_of}
 use Rattle.hf_store.specs.Valid.{Valid}
-use Rattle.hf_table.specs.Held.{is_among}
+use Rattle.hf_deps.specs.Reach.{grown}
 
 -- item a is a thumbnail or an auxiliary picture of b: it has a reference of type `thmb` or `auxl` to b
 abbrev pub IsMinorOf : ItemStore → ℕ → ℕ → Type 0
@@ -36,19 +36,6 @@ pairs_of bare id r =
 -- those of all these items
 unfoldable pub keeping : Bool → List Item → List (ℕ × ℕ)
 keeping bare is = flat_map (λ (i : Item). flat_map (pairs_of bare i.id) i.refs) is
-
--- what is kept by one of these ids
-abbrev pub kept_by : List (ℕ × ℕ) → List ℕ → List ℕ
-kept_by pairs ids = map (λ (pair : ℕ × ℕ). pair.0) (filter (λ (pair : ℕ × ℕ). is_among ids pair.1) pairs)
-
--- those of all ids that are some of these or of those
-abbrev pub among_either : List ℕ → List ℕ → List ℕ → List ℕ
-among_either all these those = filter (λ id. is_among these id || is_among those id) all
-
--- so many times, what is kept by one of them comes to these ids
-unfoldable pub grown : List (ℕ × ℕ) → List ℕ → ℕ → List ℕ → List ℕ
-grown pairs all zero ids = ids
-grown pairs all (suc n) ids = grown pairs all n (among_either all ids (kept_by pairs ids))
 
 -- the ids of the items that are kept, by rising id: no chain without a circle is longer than there are items
 unfoldable pub kept_ids : Bool → ItemStore → List ℕ
