@@ -1,3 +1,10 @@
 pub mod Among
+pub mod Cutting
+pub mod CutTwice
 pub mod Grown
+pub mod Chains
+pub mod KeptIds
+pub mod Parts
+pub mod Redactions
 pub mod Spread
+pub mod Undescribing

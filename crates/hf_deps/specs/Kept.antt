@@ -1,10 +1,11 @@
 -- Which items a redaction keeps. This is this project's own rule.
-use Rattle.std.specs.Prelude.{ℕ, ◌≡◌, ◌⊎◌, ◌↔◌, Bool, true, false, not, ◌&&◌, IsTrue, List, [], ◌∷◌, length, map, if◌then◌else◌}
+use Rattle.std.specs.Prelude.{ℕ, ◌≡◌, ◌⊎◌, ◌↔◌, Bool, true, false, not, ◌&&◌, IsTrue, List, [], ◌∷◌, ◌++◌, length, map, if◌then◌else◌}
 use Rattle.std.specs.List.{flat_map}
 use Rattle.hf_links.specs.Kinds.{is_minor, is_need}
 use Rattle.hf_store.specs.Changes.{Needs}
 use Rattle.hf_store.specs.Lists.{IsIn}
-use Rattle.hf_store.specs.Store.{RefList, Item, ItemStore, ids_of}
+use Rattle.hf_store.specs.Store.{Item, ItemStore, ids_of}
+use Rattle.hf_store.specs.declared.item.RefList.{RefList}
 use Rattle.hf_store.specs.Valid.{Valid}
 use Rattle.hf_deps.specs.Reach.{grown}
 
@@ -30,8 +31,8 @@ Kept s bare id = (rest : List ℕ) × IsChain s bare s.primary rest id
 -- the references of one type that the item with an id has, as pairs of an item and one that keeps it
 abbrev pub pairs_of : Bool → ℕ → RefList → List (ℕ × ℕ)
 pairs_of bare id r =
-    if is_need r.kind then map (λ to. (to, id)) r.to
-    else (if is_minor r.kind && not bare then map (λ to. (id, to)) r.to else [])
+    (if is_need r.kind then map (λ to. (to, id)) r.to else [])
+    ++ (if is_minor r.kind && not bare then map (λ to. (id, to)) r.to else [])
 
 -- those of all these items
 unfoldable pub keeping : Bool → List Item → List (ℕ × ℕ)

@@ -1,3 +1,4 @@
 pub mod Kept
 pub mod Reach
 pub mod Redacted
+pub mod WorkedRedactions

@@ -7,6 +7,16 @@ use Rattle.hf_table.specs.Held.{is_among}
 abbrev pub IsClosed : List (ℕ × ℕ) → List ℕ → Type 0
 IsClosed pairs ids = (a b : ℕ) → IsIn a ids → IsIn (b, a) pairs → IsIn b ids
 
+-- the first of each pair is one of all
+abbrev pub HasEnds : List ℕ → List (ℕ × ℕ) → Type 0
+HasEnds all pairs = (a b : ℕ) → IsIn (b, a) pairs → IsIn b all
+
+-- what is reached from the first, along no pair or many: it is closed, and each set that has the first and is closed has it
+pub record IsReached (pairs : List (ℕ × ℕ)) (first : ℕ) (ids : List ℕ) : Type 0 where
+  pub starts : IsIn first ids
+  pub closed : IsClosed pairs ids
+  pub least : (set : List ℕ) → IsIn first set → IsClosed pairs set → (id : ℕ) → IsIn id ids → IsIn id set
+
 -- what is reached from one of these by one pair
 abbrev pub reached_from : List (ℕ × ℕ) → List ℕ → List ℕ
 reached_from pairs ids = map (λ (pair : ℕ × ℕ). pair.0) (filter (λ (pair : ℕ × ℕ). is_among ids pair.1) pairs)

@@ -5,19 +5,27 @@ use Rattle.hf_box.specs.Literals.{four}
 use Rattle.hf_links.specs.Kinds.{is_minor, is_need}
 use Rattle.hf_store.specs.Changes.{added, kept_only, removed}
 use Rattle.hf_store.specs.Lists.{IsIn}
-use Rattle.hf_store.specs.Store.{Held, RefList, Item, ItemStore, ids_of}
+use Rattle.hf_store.specs.Store.{Held, Item, ItemStore, ids_of}
+use Rattle.hf_store.specs.declared.item.RefList.{RefList}
 use Rattle.hf_store.specs.Valid.{Valid}
 use Rattle.hf_table.specs.Held.{is_of}
 use Rattle.hf_deps.specs.Kept.{Kept, kept_ids}
 
--- a property that tells of an item, and without which it can be shown: a description by the user or a time at which it was
+-- a property that describes an item, and without which it can be shown: a text by the user or a time at which it was
 -- made or changed (`udes`, `crtt` and `mdft` of ISO/IEC 23008-12) that is not essential
-abbrev pub is_telling : Held → Bool
-is_telling h = (is_of (four "udes") h || is_of (four "crtt") h || is_of (four "mdft") h) && not h.essential
+abbrev pub is_description : Held → Bool
+is_description h = (is_of (four "udes") h || is_of (four "crtt") h || is_of (four "mdft") h) && not h.essential
 
--- an item without its name and such properties
+-- an item without such properties
+abbrev pub undescribed : Item → Item
+undescribed i = record i { props = filter (λ (h : Held). not (is_description h)) i.props }
+
+abbrev pub all_undescribed : ItemStore → ItemStore
+all_undescribed s = record s { items = map undescribed s.items }
+
+-- and without its name
 abbrev pub bared : Item → Item
-bared i = record i { name = []; props = filter (λ (h : Held). not (is_telling h)) i.props }
+bared i = record i { name = []; props = filter (λ (h : Held). not (is_description h)) i.props }
 
 -- a store of such items
 abbrev pub all_bared : ItemStore → ItemStore

@@ -4,7 +4,10 @@
 mod keeping;
 pub mod laws;
 mod needing;
+mod pairs;
+mod reach;
 mod redaction;
+pub mod worked_redactions;
 
 pub use keeping::kept;
 pub use needing::needed_by;
