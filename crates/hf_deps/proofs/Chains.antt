@@ -1,15 +1,13 @@
 -- Which items keep which, as pairs, and chains of them.
-use Rattle.std.proofs.Common.{◌≡◌, ℕ, ◌<◌, ◌≤◌, Bool, true, false, not, ◌&&◌, cond, List, [], ◌∷◌, ◌++◌, length, map, refl, sym, ap, subst, arith, inl, inr, ◌⊎◌}
-use Rattle.std.specs.List.{AllByRecursion, flat_map}
+use Rattle.std.proofs.Common.{◌≡◌, ℕ, ◌<◌, Bool, true, false, not, ◌&&◌, cond, List, [], ◌∷◌, ◌++◌, length, map, refl, sym, ap, subst, arith, inl, inr}
+use Rattle.std.specs.List.{flat_map}
 use Rattle.std.proofs.lemmas.List.{length-map}
 use Rattle.hf_links.specs.Kinds.{is_minor, is_need}
 use Rattle.hf_order.proofs.Members.{in_all, in_map, from_map, in_front, in_back, in_joined}
 use Rattle.hf_store.specs.Lists.{IsIn, RisesFrom}
 use Rattle.hf_store.specs.Store.{Item, ItemStore, ids_of}
-use Rattle.hf_store.specs.declared.item.RefList.{RefList}
 use Rattle.hf_store.specs.Valid.{IsGoodItem, IsGoodRef, Valid}
-use Rattle.hf_deps.specs.Kept.{IsMinorOf, Keeps, IsChain, Kept, pairs_of, keeping, kept_ids, KeptAreTold, KeptIsLeast}
-use Rattle.hf_deps.specs.Reach.{grown}
+use Rattle.hf_deps.specs.Kept.{Keeps, IsChain, Kept, pairs_of, keeping, kept_ids, KeptAreTold, KeptIsLeast}
 use Rattle.hf_deps.proofs.Among.{above}
 use Rattle.hf_deps.proofs.Grown.{grown_sound, grown_has, grown_rises, grown_closed}
 

@@ -125,6 +125,7 @@ module _ (p q : ℕ → Bool) (wider : (x : ℕ) → p x ≡ true → q x ≡ tr
             let other : (length (filter p g.entities) == length g.entities) ≡ false = ne_eqb _ _ (λ e. omega (arith, e, fewer)) in
             rw (other, lost.1) (and-false (not_empty (filter p g.entities)))
       ]
+
   groups_twice : (gs : List Group) → cut_groups p (cut_groups q gs) ≡ cut_groups p gs
   groups_twice [] = refl
   groups_twice (g ∷ gs) =

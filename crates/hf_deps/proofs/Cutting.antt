@@ -1,10 +1,9 @@
 -- Which items are kept where others go.
-use Rattle.std.proofs.Common.{◌≡◌, ℕ, ◌<◌, Bool, true, false, List, [], ◌∷◌, ◌++◌, map, filter, refl, sym, ap, subst, ◌∙◌, arith, inl, inr, ◌⊎◌}
+use Rattle.std.proofs.Common.{◌≡◌, ℕ, ◌<◌, Bool, true, false, List, [], ◌∷◌, ◌++◌, map, filter, refl, sym, ap, subst, ◌∙◌, arith, inl, inr}
 use Rattle.std.specs.Prelude.{IsTrue}
-use Rattle.std.specs.List.{AllByRecursion}
 use Rattle.hf_base.specs.declared.four.FourCc.{FourCc}
 use Rattle.hf_links.specs.Kinds.{is_minor, is_need}
-use Rattle.hf_order.proofs.Members.{in_all, in_map, from_map, in_filter, in_front, in_back, in_joined}
+use Rattle.hf_order.proofs.Members.{in_all, in_map, from_map, in_filter, in_front, in_joined}
 use Rattle.hf_store.specs.Changes.{added, cut_list, cut_refs, cut_item, cut_items, cut}
 use Rattle.hf_store.specs.Lists.{IsIn, RisesFrom, not_empty}
 use Rattle.hf_store.specs.Store.{Item, ItemStore, ids_of}
@@ -13,7 +12,7 @@ use Rattle.hf_store.proofs.Cuts.{ids_left, in_left}
 use Rattle.hf_deps.specs.Kept.{Keeps, Kept, kept_ids}
 use Rattle.hf_deps.specs.Redacted.{bared, all_bared, KeepNothing}
 use Rattle.hf_deps.proofs.Among.{passes, same_members, to_filter}
-use Rattle.hf_deps.proofs.Chains.{IsLinked, each_kept, kept_first, kept_next, kept_there, kept_told, kept_ids_rise, told_kept}
+use Rattle.hf_deps.proofs.Chains.{IsLinked, each_kept, kept_first, kept_next, kept_told, kept_ids_rise, told_kept}
 
 -- ---- the references that are left
 

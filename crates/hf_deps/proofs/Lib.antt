@@ -4,6 +4,7 @@ pub mod CutTwice
 pub mod Grown
 pub mod Chains
 pub mod KeptIds
+pub mod PairLists
 pub mod Parts
 pub mod Redactions
 pub mod Spread

@@ -1,14 +1,13 @@
 -- What is left after a redaction is valid, is left alone by another one, and says nothing of what went.
-use Rattle.std.proofs.Common.{◌≡◌, ℕ, ◌<◌, Bool, true, false, not, ◌||◌, List, [], ◌∷◌, length, map, filter, refl, sym, ap, subst, ◌∙◌, arith, inl, inr}
+use Rattle.std.proofs.Common.{◌≡◌, ℕ, ◌<◌, Bool, true, false, not, ◌||◌, List, [], ◌∷◌, length, map, filter, refl, ap, subst, ◌∙◌, arith, inl, inr}
 use Rattle.std.specs.Prelude.{◌==◌}
 use Rattle.std.specs.List.{AllByRecursion}
 use Rattle.std.proofs.lemmas.Bool.{cases_Bool, eqb-true}
 use Rattle.hf_order.proofs.Members.{all_from, in_all}
-use Rattle.hf_prop.specs.declared.held.Held.{Held}
 use Rattle.hf_store.specs.Changes.{added, cut, cut_refs, is_other, kept_only, removed, unnamed}
 use Rattle.hf_store.specs.Derived.{inputs}
 use Rattle.hf_store.specs.Lists.{IsIn, not_empty}
-use Rattle.hf_store.specs.Store.{Item, ItemStore, ids_of}
+use Rattle.hf_store.specs.Store.{Item, ItemStore}
 use Rattle.hf_store.specs.declared.item.RefList.{RefList}
 use Rattle.hf_store.specs.Valid.{IsGoodItem, IsGoodRef, Valid}
 use Rattle.hf_store.proofs.Cuts.{KeepsInputs}
@@ -22,7 +21,7 @@ use Rattle.hf_deps.specs.Redacted.{AdditionIsForgotten, all_bared, bared, is_des
 use Rattle.hf_deps.proofs.Among.{among_in, in_among, not_among}
 use Rattle.hf_deps.proofs.Cutting.{added_kept, added_linked, bared_kept, bared_linked, cut_kept, cut_linked, KeepsTheSame, same_ids}
 use Rattle.hf_deps.proofs.CutTwice.{all_bared_twice, cut_added, cut_bared, cut_twice}
-use Rattle.hf_deps.proofs.Chains.{IsLinked, kept_first, kept_ids_first, kept_next, kept_there, kept_told, told_kept, valid_linked}
+use Rattle.hf_deps.proofs.Chains.{IsLinked, kept_ids_first, kept_next, kept_there, kept_told, told_kept, valid_linked}
 use Rattle.hf_deps.proofs.Parts.{IsPart, valid_parts}
 
 -- ---- the inputs of what is kept
@@ -81,12 +80,14 @@ valid_bared s valid =
     let left = valid_parts undescribed undescribed_part (record s { items = map unnamed s.items }) named in
     subst (λ (is : List Item). Valid (record s { items = is })) (bared-twice s.items) left
 
+pub valid_kept : (s : ItemStore) (bare : Bool) → Valid s → Valid (kept_only (kept_ids bare s) s)
+valid_kept s bare valid =
+    let ids = kept_ids bare s in
+    valid_cut (is_among ids) s valid (in_among s.primary ids (kept_ids_first s bare (valid_linked s bare valid))) (kept_inputs s bare valid)
+
 pub redaction_keeps_validity : RedactionKeepsValidity
 unfolding redacted
-redaction_keeps_validity s bare valid =
-    let linked = valid_linked s bare valid in
-    let ids = kept_ids bare s in
-    valid_bared (kept_only ids s) (valid_cut (is_among ids) s valid (in_among s.primary ids (kept_ids_first s bare linked)) (kept_inputs s bare valid))
+redaction_keeps_validity s bare valid = valid_bared (kept_only (kept_ids bare s) s) (valid_kept s bare valid)
 
 -- ---- once is enough
 

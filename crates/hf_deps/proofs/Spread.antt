@@ -1,10 +1,11 @@
 -- What is reached along pairs, one number after the other.
-use Rattle.std.proofs.Common.{◌≡◌, ◌≢◌, ℕ, zero, suc, ◌+◌, ◌≤◌, ◌<◌, Bool, true, false, not, ◌||◌, cond, eqb, List, [], ◌∷◌, ◌++◌, length, map, filter, take, get_or, set, count_by, refl, sym, ap, subst, ◌∙◌, arith, inl, inr, ◌⊎◌}
+use Rattle.std.proofs.Common.{◌≡◌, ◌≢◌, ℕ, zero, suc, ◌+◌, ◌≤◌, ◌<◌, Bool, true, false, not, ◌||◌, cond, eqb, List, [], ◌∷◌, ◌++◌, length, map, filter, take, get_or, set, count_by, replicate, refl, sym, ap, subst, ◌∙◌, arith, inl, inr, ◌⊎◌}
 use Rattle.std.proofs.lemmas.Bool.{eqb-true, eq-eqb, ne_eqb}
-use Rattle.std.proofs.lemmas.List.{length-map, length_push, take_all, take_more, take-append-le}
-use Rattle.std.proofs.lemmas.List.Sums.{sum_by-set}
+use Rattle.std.proofs.lemmas.List.{length-map, length_push, append-nil, take_all, take_more, take-append-le}
+use Rattle.std.proofs.lemmas.List.Elements.{filter-append}
+use Rattle.std.proofs.lemmas.List.Sums.{sum_by-cons, sum_by-set}
 use Rattle.hf_base.specs.Members.{IsIn, RisesFrom}
-use Rattle.hf_order.proofs.Members.{at_in, in_filter, in_front, in_back, in_joined, in_take}
+use Rattle.hf_order.proofs.Members.{at_in, in_filter, in_front, in_back, in_joined}
 use Rattle.hf_table.specs.Held.{is_among}
 use Rattle.hf_deps.specs.Reach.{IsClosed, AreMarked, IsMet, IsSpread}
 use Rattle.hf_deps.proofs.Among.{among_in, in_among, passes, to_filter, above}
@@ -63,18 +64,51 @@ more_marked all marks reached k x up are less here open' =
     }
 
 -- a number that is marked, and one that is not
-pub met_again : (all : List ℕ) (marks : List Bool) (reached : List ℕ) (k x : ℕ) (mark : Bool) → AreMarked all marks reached → k < length all → get_or all k 0 ≡ x
-    → mark ≡ get_or marks k mark → mark ≡ true → IsMet all x reached marks reached
-met_again all marks reached k x mark are less here at passed =
-    record { marked = are; grows = inl refl; there = among_in x reached (sym (marked_at all marks reached k x mark are less here) ∙ sym at ∙ passed) }
+pub met_again : (all : List ℕ) (marks : List Bool) (reached : List ℕ) (k x : ℕ) → AreMarked all marks reached → k < length all → get_or all k 0 ≡ x
+    → get_or marks k false ≡ true → IsMet all x reached marks reached
+met_again all marks reached k x are less here marked =
+    record { marked = are; grows = inl refl; there = among_in x reached (sym (marked_at all marks reached k x false are less here) ∙ marked) }
 
-pub met_first : (all : List ℕ) (marks : List Bool) (reached : List ℕ) (k x : ℕ) (mark : Bool) → RisesFrom ◌<◌ 0 all → AreMarked all marks reached → k < length all → get_or all k 0 ≡ x
-    → mark ≡ get_or marks k mark → mark ≡ false → IsMet all x reached (set marks k true) (reached ++ x ∷ [])
-met_first all marks reached k x mark up are less here at failed =
-    let open' : get_or marks k false ≡ false =
-    marked_at all marks reached k x false are less here ∙ sym (marked_at all marks reached k x mark are less here) ∙ sym at ∙ failed
-    in
+pub met_first : (all : List ℕ) (marks : List Bool) (reached : List ℕ) (k x : ℕ) → RisesFrom ◌<◌ 0 all → AreMarked all marks reached → k < length all → get_or all k 0 ≡ x
+    → get_or marks k false ≡ false → IsMet all x reached (set marks k true) (reached ++ x ∷ [])
+met_first all marks reached k x up are less here open' =
     record { marked = more_marked all marks reached k x up are less here open'; grows = inr refl; there = in_back x reached (x ∷ []) (inl refl) }
+
+-- nothing is reached
+none_are : (all : List ℕ) → replicate (length all) false ≡ map (is_among []) all
+none_are [] = refl
+none_are (x ∷ xs) = ap (λ (l : List Bool). false ∷ l) (none_are xs)
+
+none_counted : (all : List ℕ) → count_by not (map (is_among []) all) ≡ length all
+none_counted [] = refl
+none_counted (x ∷ xs) = omega (arith, none_counted xs, sum_by-cons open_at false (map (is_among []) xs))
+
+pub none_marked : (all : List ℕ) (n : ℕ) → n ≡ length all → AreMarked all (replicate n false) []
+none_marked all n size =
+    let are : replicate n false ≡ map (is_among []) all = ap (λ (m : ℕ). replicate m false) size ∙ none_are all in
+    record { marks_are = are; rest = omega (arith, ap (count_by not) are, none_counted all) }
+
+-- the first number is reached
+pub first_met : (all : List ℕ) (x : ℕ) (marks : List Bool) (new : List ℕ) → IsMet all x [] marks new → new ≡ x ∷ []
+first_met all x marks new met = elim met.grows [ inl none ↦ absurd (subst (IsIn x) none met.there) | inr one ↦ one ]
+
+-- ---- ids that are marked
+
+pub picked : (test : ℕ → Bool) (all : List ℕ) (marks : List Bool) (i x : ℕ) (old : List ℕ) → marks ≡ map test all → i < length all → get_or all i 0 ≡ x
+    → old ≡ filter test (take i all) → get_or marks i false ≡ true → old ++ x ∷ [] ≡ filter test (take (i + 1) all)
+picked test all marks i x old are less here so_far marked =
+    let holds : test x ≡ true = sym (at_map test all i x false less here) ∙ ap (λ (l : List Bool). get_or l i false) (sym are) ∙ marked in
+    let one : filter test (x ∷ []) ≡ x ∷ [] = rw holds refl in
+    let more : take (i + 1) all ≡ take i all ++ x ∷ [] = take_more all i 0 less ∙ ap (λ (y : ℕ). take i all ++ y ∷ []) here in
+    ap (λ (l : List ℕ). l ++ x ∷ []) so_far ∙ ap (λ (l : List ℕ). filter test (take i all) ++ l) (sym one) ∙ sym (filter-append test (take i all) (x ∷ [])) ∙ ap (filter test) (sym more)
+
+pub passed_over : (test : ℕ → Bool) (all : List ℕ) (marks : List Bool) (i x : ℕ) (old : List ℕ) → marks ≡ map test all → i < length all → get_or all i 0 ≡ x
+    → old ≡ filter test (take i all) → get_or marks i false ≡ false → old ≡ filter test (take (i + 1) all)
+passed_over test all marks i x old are less here so_far unmarked =
+    let fails : test x ≡ false = sym (at_map test all i x false less here) ∙ ap (λ (l : List Bool). get_or l i false) (sym are) ∙ unmarked in
+    let none : filter test (x ∷ []) ≡ [] = rw fails refl in
+    let more : take (i + 1) all ≡ take i all ++ x ∷ [] = take_more all i 0 less ∙ ap (λ (y : ℕ). take i all ++ y ∷ []) here in
+    so_far ∙ sym (append-nil (filter test (take i all))) ∙ ap (λ (l : List ℕ). filter test (take i all) ++ l) (sym none) ∙ sym (filter-append test (take i all) (x ∷ [])) ∙ ap (filter test) (sym more)
 
 -- ---- pairs
 

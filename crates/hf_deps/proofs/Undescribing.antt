@@ -1,5 +1,5 @@
 -- Items that lose their descriptions, one type after the other.
-use Rattle.std.proofs.Common.{◌≡◌, ℕ, zero, suc, ◌+◌, ◌<◌, Bool, true, false, not, ◌&&◌, ◌||◌, List, [], ◌∷◌, length, map, filter, refl, sym, ap, subst, ◌∙◌, arith, inl, inr}
+use Rattle.std.proofs.Common.{◌≡◌, ℕ, zero, suc, ◌+◌, ◌<◌, ◌≤◌, Bool, true, false, not, ◌&&◌, ◌||◌, List, [], ◌∷◌, length, map, filter, refl, sym, add-one, ap, subst, ◌∙◌, arith, inl, inr}
 use Rattle.std.specs.List.Sorted.{IsStrictlyIncreasing}
 use Rattle.std.proofs.lemmas.Bool.{cases_Bool}
 use Rattle.hf_base.proofs.Rising.{rises_at}
@@ -9,6 +9,7 @@ use Rattle.hf_box.specs.Literals.{four}
 use Rattle.hf_store.specs.Changes.{changed_at, lacking_optional, unnamed, without_names, without_optionals}
 use Rattle.hf_store.specs.Store.{Held, Item, ItemStore}
 use Rattle.hf_store.specs.Valid.{Valid}
+use Rattle.hf_store.proofs.Mapped.{length-mapped, mapped, mapped-all, mapped-none}
 use Rattle.hf_table.specs.Held.{is_of, is_optional_of, without_optional}
 use Rattle.hf_deps.specs.Redacted.{all_bared, all_undescribed, bared, is_description, undescribed}
 use Rattle.hf_deps.proofs.Parts.{IsPart, valid_part_at}
@@ -103,10 +104,37 @@ all_dropped k s =
     ∙ changed_twice third (λ i. second (first i)) k s.items
     ∙ changed_alike (λ i. third (second (first i))) undescribed k s.items (λ i. ap (λ (hs : List Held). record i { props = hs }) (thrice i.props)))
 
+module _ (k : ℕ) (kind : FourCc) (s t : ItemStore) (is : t ≡ without_optionals k kind s) where
+  pub place_without : k < length s.items → k < length t.items
+  place_without less = omega (arith, less, ap (λ (u : ItemStore). length u.items) is, length-changed (lacking_optional kind) k s.items)
+
+  pub valid_left : Valid s → Valid t
+  valid_left valid = subst Valid (sym is) (valid_without k kind s valid)
+
 -- ---- all items
 
-pub none_mapped : (s : ItemStore) (js : List Item) → js ≡ s.items → s ≡ record s { items = js }
-none_mapped s js same = ap (λ (is : List Item). record s { items = is }) (sym same)
+changed-suc : {A : Type 0} (change : A → A) (k : ℕ) (xs : List A) → changed_at change k (mapped change k xs) ≡ mapped change (suc k) xs
+changed-suc change k [] = refl
+changed-suc change zero (x ∷ xs) = ap (λ l. change x ∷ l) (sym (mapped-none change xs))
+changed-suc change (suc k) (x ∷ xs) = ap (λ l. change x ∷ l) (changed-suc change k xs)
+
+-- one more item of those that are changed
+pub one_mapped : (k : ℕ) (s t u : ItemStore) → t ≡ record s { items = mapped undescribed k s.items } → u ≡ record t { items = changed_at undescribed k t.items }
+    → u ≡ record s { items = mapped undescribed (k + 1) s.items }
+one_mapped k s t u so_far done =
+    let made : List Item → ItemStore = λ is. record s { items = is } in
+    done
+    ∙ ap (λ (v : ItemStore). record v { items = changed_at undescribed k v.items }) so_far
+    ∙ ap made (changed-suc undescribed k s.items ∙ ap (λ (n : ℕ). mapped undescribed n s.items) (sym (add-one k)))
+
+pub all_mapped : (k : ℕ) (s t : ItemStore) → t ≡ record s { items = mapped undescribed k s.items } → length s.items ≤ k → t ≡ all_undescribed s
+all_mapped k s t so_far all = so_far ∙ ap (λ (is : List Item). record s { items = is }) (mapped-all undescribed s.items k all)
+
+pub mapped_place : (k : ℕ) (s t : ItemStore) → t ≡ record s { items = mapped undescribed k s.items } → k < length s.items → k < length t.items
+mapped_place k s t so_far less = omega (arith, less, ap (λ (u : ItemStore). length u.items) so_far, length-mapped undescribed s.items k)
+
+pub none_mapped : (s : ItemStore) → s ≡ record s { items = mapped undescribed 0 s.items }
+none_mapped s = ap (λ (is : List Item). record s { items = is }) (sym (mapped-none undescribed s.items))
 
 -- the names go, and then the descriptions
 pub bared_is : (s : ItemStore) → all_undescribed (without_names s) ≡ all_bared s

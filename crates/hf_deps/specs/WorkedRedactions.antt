@@ -27,7 +27,7 @@ auxiliary = picture 4 (references "auxl" (2 ∷ []) ∷ [])
 -- the seventh is what metadata alone describes and needs; it needs the primary item itself
 unfoldable pub described_chain : ItemStore
 described_chain = chained
-  (
+    (
     record (picture 1 (references "cdsc" (7 ∷ []) ∷ references "prem" (3 ∷ []) ∷ [])) {
       hidden = true;
       name = codes "IMG";
@@ -40,8 +40,8 @@ described_chain = chained
     ∷ record (plain 6 "Exif" (hex_of "00000000 45")) { refs = references "cdsc" (1 ∷ 7 ∷ []) ∷ references "prem" (7 ∷ []) ∷ [] }
     ∷ picture 7 (references "prem" (1 ∷ []) ∷ [])
     ∷ []
-  )
-  (alternatives 10 (1 ∷ 7 ∷ []) ∷ pair_with_tail 11 (1 ∷ 7 ∷ []) ∷ alternatives 12 (7 ∷ []) ∷ alternatives 13 (2 ∷ 1 ∷ []) ∷ pair_with_tail 14 (3 ∷ 1 ∷ []) ∷ [])
+    )
+    (alternatives 10 (1 ∷ 7 ∷ []) ∷ pair_with_tail 11 (1 ∷ 7 ∷ []) ∷ alternatives 12 (7 ∷ []) ∷ alternatives 13 (2 ∷ 1 ∷ []) ∷ pair_with_tail 14 (3 ∷ 1 ∷ []) ∷ [])
 
 -- what a redaction leaves of the primary item
 abbrev pub bared_first : Item
@@ -52,8 +52,8 @@ fifth = record (picture 5 []) { props = essential "mdft" (hex_of "06") ∷ [] }
 
 unfoldable pub redacted_chain : ItemStore
 redacted_chain = chained
-  (bared_first ∷ thumbnail ∷ third ∷ auxiliary ∷ fifth ∷ [])
-  (alternatives 10 (1 ∷ []) ∷ alternatives 13 (2 ∷ 1 ∷ []) ∷ pair_with_tail 14 (3 ∷ 1 ∷ []) ∷ [])
+    (bared_first ∷ thumbnail ∷ third ∷ auxiliary ∷ fifth ∷ [])
+    (alternatives 10 (1 ∷ []) ∷ alternatives 13 (2 ∷ 1 ∷ []) ∷ pair_with_tail 14 (3 ∷ 1 ∷ []) ∷ [])
 
 -- and a redaction without thumbnails and auxiliary pictures
 unfoldable pub bare_chain : ItemStore

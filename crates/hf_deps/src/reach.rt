@@ -108,11 +108,7 @@ pub(crate) fn reach(
 }
 
 /// The ids of the items that are marked, by rising id.
-pub(crate) fn marked_ids(
-    alloc: Global,
-    store: &Store<'_>,
-    marks: &[bool],
-) -> Result<Ids, NoMemory>
+pub(crate) fn marked_ids(alloc: Global, store: &Store<'_>, marks: &[bool]) -> Result<Ids, NoMemory>
     requires { length marks.now ≡ length store.now.items }
     ensures { IfOk result (λ ids. (test : ℕ → Bool) → marks.now ≡ map test (ids_of store.now.items) → ids ≡ filter test (ids_of store.now.items)) }
 {
