@@ -1,9 +1,10 @@
 pub mod Among
+pub mod Chains
 pub mod Cutting
 pub mod CutTwice
 pub mod Grown
-pub mod Chains
 pub mod KeptIds
+pub mod Needers
 pub mod PairLists
 pub mod Parts
 pub mod Redactions

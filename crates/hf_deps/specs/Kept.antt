@@ -2,11 +2,11 @@
 use Rattle.std.specs.Prelude.{ℕ, ◌≡◌, ◌⊎◌, ◌↔◌, Bool, true, false, not, ◌&&◌, IsTrue, List, [], ◌∷◌, ◌++◌, length, map, if◌then◌else◌}
 use Rattle.std.specs.List.{flat_map}
 use Rattle.hf_links.specs.Kinds.{is_minor, is_need}
-use Rattle.hf_store.specs.Changes.{Needs}
 use Rattle.hf_store.specs.Lists.{IsIn}
 use Rattle.hf_store.specs.Store.{Item, ItemStore, ids_of}
 use Rattle.hf_store.specs.declared.item.RefList.{RefList}
 use Rattle.hf_store.specs.Valid.{Valid}
+use Rattle.hf_deps.specs.Needs.{Needs}
 use Rattle.hf_deps.specs.Reach.{grown}
 
 -- item a is a thumbnail or an auxiliary picture of b: it has a reference of type `thmb` or `auxl` to b

@@ -3,8 +3,8 @@ use Rattle.std.specs.Prelude.{ℕ, true, List, [], ◌∷◌, codes}
 use Rattle.hf_box.specs.Literals.{hex_of}
 use Rattle.hf_store.specs.Store.{Item, Group, ItemStore}
 use Rattle.hf_store.specs.declared.item.RefList.{RefList}
-use Rattle.hf_store.specs.WorkedChanges.{alternatives, pair_with_tail}
-use Rattle.hf_store.specs.WorkedStores.{heic, plain, essential, optional, references}
+use Rattle.hf_worked.specs.WorkedChanges.{alternatives, pair_with_tail}
+use Rattle.hf_worked.specs.WorkedStores.{heic, plain, essential, optional, references}
 
 -- a picture with these references
 abbrev pub picture : ℕ → List RefList → Item

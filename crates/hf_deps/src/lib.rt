@@ -7,7 +7,7 @@ mod needing;
 mod pairs;
 mod reach;
 mod redaction;
-pub mod worked_redactions;
+pub mod worked;
 
 pub use keeping::kept;
 pub use needing::needed_by;

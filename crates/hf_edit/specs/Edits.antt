@@ -4,12 +4,13 @@ use Rattle.std.specs.List.{list_any}
 use Rattle.hf_base.specs.declared.four.FourCc.{FourCc}
 use Rattle.hf_box.specs.Literals.{four}
 use Rattle.hf_box.specs.Walk.{is_kind}
-use Rattle.hf_store.specs.Changes.{hide, lacking, needed_by, removed, with_primary}
+use Rattle.hf_store.specs.Changes.{hide, lacking, removed, with_primary}
 use Rattle.hf_store.specs.Store.{Held, Item, ItemStore, ids_of}
 use Rattle.hf_store.specs.declared.item.RefList.{RefList}
 use Rattle.hf_store.specs.declared.reason.Reason.{Reason}
 use Rattle.hf_store.specs.declared.reason.Reason.TheVariants.{NoItem, IsPrimary, Needed, NotImage, IsHidden, IsMinor, NoProperty, IsEssential}
 use Rattle.hf_table.specs.Held.{is_of}
+use Rattle.hf_deps.specs.Needs.{needed_by}
 
 pub data Edit : Type 0 where
   -- the item with this id goes

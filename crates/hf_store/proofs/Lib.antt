@@ -1,4 +1,3 @@
-pub mod BareLengths
 pub mod Bodies
 pub mod BoxLengths
 pub mod Capped
@@ -13,12 +12,7 @@ pub mod Ends
 pub mod Few
 pub mod FewCounts
 pub mod FieldLengths
-pub mod GridFiles
-pub mod Holders
 pub mod Finds
-pub mod KeptLimits
-pub mod LaidFiles
-pub mod LargeStores
 pub mod Lengths
 pub mod Listed
 pub mod Mapped
@@ -26,15 +20,10 @@ pub mod References
 pub mod Measured
 pub mod MetaCounts
 pub mod Names
-pub mod Needers
 pub mod Offsets
-pub mod Others
 pub mod Passed
-pub mod PlainLengths
 pub mod Pushed
-pub mod Reasons
 pub mod Recounted
-pub mod RefusedStores
 pub mod Removals
 pub mod Removed
 pub mod ShortBoxes
@@ -42,7 +31,5 @@ pub mod Sizes
 pub mod Spots
 pub mod Tables
 pub mod Tallied
-pub mod TestStores
 pub mod Uses
-pub mod ValidPairs
-pub mod ValidStores
+pub mod Wholes

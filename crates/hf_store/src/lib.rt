@@ -1,30 +1,17 @@
 //! The store of items: what it is, and which stores are valid.
 #![tactic(auto)]
 
-pub mod broken;
-pub mod changed;
 pub mod counting;
 mod cutting;
-pub mod derived;
-pub mod grids;
 mod item;
 pub mod laws;
-pub mod limits;
-pub mod linked;
 mod measuring;
-pub mod plain;
 mod reason;
-mod removal;
 mod size;
 mod store;
 mod tally;
-pub mod worked;
 
 pub use item::{GroupList, Item, ItemList, Props, RefList, Refs};
 pub use reason::Reason;
-pub use removal::{needed_by, remove_item};
 pub use store::{Parts, Store};
 pub use tally::{Counts, in_idat};
-
-#[cfg(test)]
-mod tests;
