@@ -67,7 +67,8 @@ behind x y z ys same lt (inl e) = absurd (omega (arith, same, e))
 behind x y z ys same lt (inr h) = h
 
 -- two lists that rise and have the same members are one
-pub same_members : (low : ℕ) (xs ys : List ℕ) → RisesFrom ◌<◌ low xs → RisesFrom ◌<◌ low ys → ((x : ℕ) → IsIn x xs → IsIn x ys) → ((x : ℕ) → IsIn x ys → IsIn x xs)
+pub same_members : (low : ℕ) (xs ys : List ℕ) → RisesFrom ◌<◌ low xs → RisesFrom ◌<◌ low ys → ((x : ℕ) → IsIn x xs → IsIn x ys)
+    → ((x : ℕ) → IsIn x ys → IsIn x xs)
     → xs ≡ ys
 same_members low [] [] up rise there back = refl
 same_members low [] (y ∷ ys) up rise there back = absurd (back y (inl refl))

@@ -43,14 +43,16 @@ to_need : (need : Bool) (id : ℕ) (ids : List ℕ) (b : ℕ) → need ≡ true 
 to_need true id ids b e h = in_map (λ (to : ℕ). (to, id)) ids b h
 to_need false id ids b e h = absurd cc
 
-from_minor : (minor bare : Bool) (id : ℕ) (ids : List ℕ) (b a : ℕ) → IsIn (b, a) (minor_pairs (minor && not bare) id ids) → (bare ≡ false) × (minor ≡ true) × (id ≡ b) × IsIn a ids
+from_minor : (minor bare : Bool) (id : ℕ) (ids : List ℕ) (b a : ℕ) → IsIn (b, a) (minor_pairs (minor && not bare) id ids)
+    → (bare ≡ false) × (minor ≡ true) × (id ≡ b) × IsIn a ids
 from_minor true false id ids b a h =
     let from = from_map (λ (to : ℕ). (id, to)) ids (b, a) h in
     (refl, refl, ap (λ (pair : ℕ × ℕ). pair.0) from.2, subst (λ (n : ℕ). IsIn n ids) (ap (λ (pair : ℕ × ℕ). pair.1) from.2) from.1)
 from_minor true true id ids b a h = absurd h
 from_minor false bare id ids b a h = absurd h
 
-to_minor : (minor bare : Bool) (id : ℕ) (ids : List ℕ) (a : ℕ) → bare ≡ false → minor ≡ true → IsIn a ids → IsIn (id, a) (minor_pairs (minor && not bare) id ids)
+to_minor : (minor bare : Bool) (id : ℕ) (ids : List ℕ) (a : ℕ) → bare ≡ false → minor ≡ true → IsIn a ids
+    → IsIn (id, a) (minor_pairs (minor && not bare) id ids)
 to_minor true false id ids a e f h = in_map (λ (to : ℕ). (id, to)) ids a h
 to_minor true true id ids a e f h = absurd cc
 to_minor false bare id ids a e f h = absurd cc
@@ -64,7 +66,8 @@ keeps_pair s bare a b (inl h) =
     let i = h.0 in
     let r = h.1 in
     let first = to_need (is_need r.kind) i.id r.to b h.5 h.6 in
-    let there : IsIn (b, i.id) (pairs_of bare i.id r) = in_front (b, i.id) (need_pairs (is_need r.kind) i.id r.to) (minor_pairs (is_minor r.kind && not bare) i.id r.to) first in
+    let there : IsIn (b, i.id) (pairs_of bare i.id r) = in_front (b, i.id) (need_pairs (is_need r.kind) i.id r.to)
+    (minor_pairs (is_minor r.kind && not bare) i.id r.to) first in
     subst (λ (n : ℕ). IsIn (b, n) (flat_map (item_pairs bare) s.items)) h.3
     (in_flat (item_pairs bare) s.items i (b, i.id) h.2 (in_flat (pairs_of bare i.id) i.refs r (b, i.id) h.4 there))
 keeps_pair s bare a b (inr k) =
@@ -72,7 +75,8 @@ keeps_pair s bare a b (inr k) =
     let i = h.0 in
     let r = h.1 in
     let last = to_minor (is_minor r.kind) bare i.id r.to a k.0 h.5 h.6 in
-    let there : IsIn (i.id, a) (pairs_of bare i.id r) = in_back (i.id, a) (need_pairs (is_need r.kind) i.id r.to) (minor_pairs (is_minor r.kind && not bare) i.id r.to) last in
+    let there : IsIn (i.id, a) (pairs_of bare i.id r) = in_back (i.id, a) (need_pairs (is_need r.kind) i.id r.to)
+    (minor_pairs (is_minor r.kind && not bare) i.id r.to) last in
     subst (λ (n : ℕ). IsIn (n, a) (flat_map (item_pairs bare) s.items)) h.3
     (in_flat (item_pairs bare) s.items i (i.id, a) h.2 (in_flat (pairs_of bare i.id) i.refs r (i.id, a) h.4 there))
 
@@ -90,7 +94,8 @@ pair_keeps s bare a b h =
 
 -- ---- chains
 
-chain_push : (s : ItemStore) (bare : Bool) (rest : List ℕ) (first last next : ℕ) → IsChain s bare first rest last → Keeps s bare last next → IsChain s bare first (rest ++ next ∷ []) next
+chain_push : (s : ItemStore) (bare : Bool) (rest : List ℕ) (first last next : ℕ) → IsChain s bare first rest last → Keeps s bare last next
+    → IsChain s bare first (rest ++ next ∷ []) next
 chain_push s bare [] first last next e keeps = (subst (λ (n : ℕ). Keeps s bare n next) (sym e) keeps, refl)
 chain_push s bare (x ∷ xs) first last next chain keeps = (chain.0, chain_push s bare xs x last next chain.1 keeps)
 
@@ -100,7 +105,8 @@ kept_first s bare = ([], refl)
 pub kept_next : (s : ItemStore) (bare : Bool) (a b : ℕ) → Kept s bare a → Keeps s bare a b → Kept s bare b
 kept_next s bare a b kept keeps = (kept.0 ++ b ∷ [], chain_push s bare kept.0 s.primary a b kept.1 keeps)
 
-along : (P : ℕ → Type 0) (s : ItemStore) (bare : Bool) → ((a b : ℕ) → P a → Keeps s bare a b → P b) → (rest : List ℕ) (first last : ℕ) → P first → IsChain s bare first rest last → P last
+along : (P : ℕ → Type 0) (s : ItemStore) (bare : Bool) → ((a b : ℕ) → P a → Keeps s bare a b → P b) → (rest : List ℕ) (first last : ℕ) → P first
+    → IsChain s bare first rest last → P last
 along P s bare step [] first last p e = subst P e p
 along P s bare step (x ∷ xs) first last p chain = along P s bare step xs x last (step first x p chain.0) chain.1
 
@@ -134,7 +140,8 @@ valid_linked s bare valid = record { rises = valid.ids_rise; primary = valid.pri
 pub told_kept : (s : ItemStore) (bare : Bool) (id : ℕ) → IsIn id (kept_ids bare s) → Kept s bare id
 unfolding kept_ids
 told_kept s bare id h =
-    grown_sound (Kept s bare) (keeping bare s.items) (ids_of s.items) (λ a b kept pair. kept_next s bare a b kept (pair_keeps s bare a b pair)) (length s.items) (s.primary ∷ [])
+    grown_sound (Kept s bare) (keeping bare s.items) (ids_of s.items) (λ a b kept pair. kept_next s bare a b kept (pair_keeps s bare a b pair))
+    (length s.items) (s.primary ∷ [])
     (λ x there. elim there [ inl e ↦ subst (Kept s bare) e (kept_first s bare) | inr none ↦ absurd none ]) id h
 
 module _ (s : ItemStore) (bare : Bool) (linked : IsLinked s bare) where
@@ -156,7 +163,8 @@ module _ (s : ItemStore) (bare : Bool) (linked : IsLinked s bare) where
 
   pub kept_ids_rise : RisesFrom ◌<◌ 0 (kept_ids bare s)
   unfolding kept_ids
-  kept_ids_rise = grown_rises (keeping bare s.items) (ids_of s.items) (length s.items) 0 (s.primary ∷ []) linked.rises (above 0 s.primary (ids_of s.items) linked.rises linked.primary, tt)
+  kept_ids_rise = grown_rises (keeping bare s.items) (ids_of s.items) (length s.items) 0 (s.primary ∷ []) linked.rises
+      (above 0 s.primary (ids_of s.items) linked.rises linked.primary, tt)
 
 pub kept_are_told : KeptAreTold
 kept_are_told s bare id valid = (told_kept s bare id, kept_told s bare (valid_linked s bare valid) id)

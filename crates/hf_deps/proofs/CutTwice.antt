@@ -39,7 +39,8 @@ module _ (p q : ℕ → Bool) (wider : (x : ℕ) → p x ≡ true → q x ≡ tr
       let some : not_empty (filter p (filter q r.to)) ≡ not_empty (filter p r.to) = ap not_empty (ids_twice r.to) in
       elim (cases_Bool (not_empty (filter q r.to))) [
         | inl stays ↦ elim (cases_Bool (not_empty (filter p r.to))) [
-          | inl here ↦ rw (stays, some ∙ here, here) (ap (λ (l : RefList). l ∷ cut_refs p (cut_refs q rs)) same ∙ ap (λ (ls : List RefList). cut_list p r ∷ ls) rest)
+          | inl here ↦ rw (stays, some ∙ here, here)
+              (ap (λ (l : RefList). l ∷ cut_refs p (cut_refs q rs)) same ∙ ap (λ (ls : List RefList). cut_list p r ∷ ls) rest)
           | inr gone ↦ rw (stays, some ∙ gone, gone) rest
         ]
         | inr goes ↦ rw (goes, none_twice r.to goes) rest
@@ -121,7 +122,8 @@ module _ (p q : ℕ → Bool) (wider : (x : ℕ) → p x ≡ true → q x ≡ tr
       elim (first_goes (not_empty left) (length left == length g.entities) bare goes) [
         | inl none ↦ rw (none_twice g.entities none) refl
         | inr lost ↦
-            let fewer : length (filter p g.entities) < length g.entities = omega (arith, fewer_twice g.entities, filter-le q g.entities, apart (length left) (length g.entities) lost.0) in
+            let fewer : length (filter p g.entities) < length g.entities = omega
+            (arith, fewer_twice g.entities, filter-le q g.entities, apart (length left) (length g.entities) lost.0) in
             let other : (length (filter p g.entities) == length g.entities) ≡ false = ne_eqb _ _ (λ e. omega (arith, e, fewer)) in
             rw (other, lost.1) (and-false (not_empty (filter p g.entities)))
       ]
@@ -134,7 +136,8 @@ module _ (p q : ℕ → Bool) (wider : (x : ℕ) → p x ≡ true → q x ≡ tr
         | inl stays ↦
             let same = still_stays g stays in
             elim (cases_Bool (group_stays p g)) [
-              | inl here ↦ rw (stays, same ∙ here, here) (ap (λ (h : Group). h ∷ cut_groups p (cut_groups q gs)) (group_twice g) ∙ ap (λ (hs : List Group). cut_group p g ∷ hs) rest)
+              | inl here ↦ rw (stays, same ∙ here, here)
+                  (ap (λ (h : Group). h ∷ cut_groups p (cut_groups q gs)) (group_twice g) ∙ ap (λ (hs : List Group). cut_group p g ∷ hs) rest)
               | inr gone ↦ rw (stays, same ∙ gone, gone) rest
             ]
         | inr goes ↦ rw (goes, goes_too g goes) rest

@@ -38,12 +38,14 @@ has_some : (x : ℕ) (xs : List ℕ) → IsIn x xs → not_empty xs ≡ true
 has_some x [] h = absurd h
 has_some x (y ∷ ys) h = refl
 
-to_cut_refs : (stays : ℕ → Bool) (rs : List RefList) (r : RefList) (b : ℕ) → IsIn r rs → IsIn b (filter stays r.to) → IsIn (cut_list stays r) (cut_refs stays rs)
+to_cut_refs : (stays : ℕ → Bool) (rs : List RefList) (r : RefList) (b : ℕ) → IsIn r rs → IsIn b (filter stays r.to)
+    → IsIn (cut_list stays r) (cut_refs stays rs)
 to_cut_refs stays rs r b h left =
     let test : RefList → Bool = λ q. not_empty q.to in
     to_filter test (map (cut_list stays) rs) (cut_list stays r) (has_some b (filter stays r.to) left) (in_map (cut_list stays) rs r h)
 
-refers_left : (of : FourCc → Bool) (stays : ℕ → Bool) (s : ItemStore) (a b : ℕ) → Refers of (cut stays s) a b → Refers of s a b × (stays a ≡ true) × (stays b ≡ true)
+refers_left : (of : FourCc → Bool) (stays : ℕ → Bool) (s : ItemStore) (a b : ℕ) → Refers of (cut stays s) a b
+    → Refers of s a b × (stays a ≡ true) × (stays b ≡ true)
 unfolding cut
 refers_left of stays s a b h =
     let item = from_cut stays s.items h.0 h.2 in
@@ -56,7 +58,8 @@ refers_left of stays s a b h =
     let left : IsIn b (filter stays r.to) = subst (λ (q : RefList). IsIn b q.to) (sym list.2) h.6 in
     ((i, r, item.1, id, list.1, kind, in_filter stays r.to b left), ap stays (sym id) ∙ item.2, passes stays r.to b left)
 
-refers_still : (of : FourCc → Bool) (stays : ℕ → Bool) (s : ItemStore) (a b : ℕ) → Refers of s a b → stays a ≡ true → stays b ≡ true → Refers of (cut stays s) a b
+refers_still : (of : FourCc → Bool) (stays : ℕ → Bool) (s : ItemStore) (a b : ℕ) → Refers of s a b → stays a ≡ true → stays b ≡ true
+    → Refers of (cut stays s) a b
 unfolding cut
 refers_still of stays s a b h here there =
     let left : IsIn b (filter stays h.1.to) = to_filter stays h.1.to b there h.6 in
@@ -90,9 +93,11 @@ module _ (stays : ℕ → Bool) (s : ItemStore) (bare : Bool) (all : (id : ℕ) 
 
   pub cut_kept : KeepsTheSame (cut stays s) s bare
   cut_kept = record {
-    there = each_kept (Kept s bare) (cut stays s) bare (subst (Kept s bare) (sym cut_first) (kept_first s bare)) (λ a b kept keeps. kept_next s bare a b kept (keeps_left stays s bare a b keeps).0);
+    there = each_kept (Kept s bare) (cut stays s) bare (subst (Kept s bare) (sym cut_first) (kept_first s bare))
+        (λ a b kept keeps. kept_next s bare a b kept (keeps_left stays s bare a b keeps).0);
     back = λ id kept.
-        (each_kept (λ (n : ℕ). Kept s bare n × Kept (cut stays s) bare n) s bare (kept_first s bare, subst (Kept (cut stays s) bare) cut_first (kept_first (cut stays s) bare))
+        (each_kept (λ (n : ℕ). Kept s bare n × Kept (cut stays s) bare n) s bare
+        (kept_first s bare, subst (Kept (cut stays s) bare) cut_first (kept_first (cut stays s) bare))
         (λ a b both keeps.
         let next = kept_next s bare a b both.0 keeps in
         (next, kept_next (cut stays s) bare a b both.1 (keeps_still stays s bare a b keeps (all a both.0) (all b next))))
@@ -128,7 +133,8 @@ bared_keeps s bare a b (inr k) = inr (k.0, bared_refers is_minor s b a k.1)
 pub bared_kept : (s : ItemStore) (bare : Bool) → KeepsTheSame (all_bared s) s bare
 bared_kept s bare = record {
   there = each_kept (Kept s bare) (all_bared s) bare (kept_first s bare) (λ a b kept keeps. kept_next s bare a b kept (keeps_bared s bare a b keeps));
-  back = each_kept (Kept (all_bared s) bare) s bare (kept_first (all_bared s) bare) (λ a b kept keeps. kept_next (all_bared s) bare a b kept (bared_keeps s bare a b keeps));
+  back = each_kept (Kept (all_bared s) bare) s bare (kept_first (all_bared s) bare)
+      (λ a b kept keeps. kept_next (all_bared s) bare a b kept (bared_keeps s bare a b keeps));
 }
 
 ids-bared : (is : List Item) → ids_of (map bared is) ≡ ids_of is
@@ -146,11 +152,13 @@ bared_linked s bare linked =
 
 -- ---- one more item, which keeps nothing
 
-refers_added : (of : FourCc → Bool) (i : Item) (s : ItemStore) (a b : ℕ) → ((r : RefList) → IsIn r i.refs → of r.kind ≡ false) → Refers of (added i s) a b → Refers of s a b
+refers_added : (of : FourCc → Bool) (i : Item) (s : ItemStore) (a b : ℕ) → ((r : RefList) → IsIn r i.refs → of r.kind ≡ false) → Refers of (added i s) a b
+    → Refers of s a b
 refers_added of i s a b none h = elim (in_joined h.0 s.items (i ∷ []) h.2) [
   | inl old ↦ (h.0, h.1, old, h.3, h.4, h.5, h.6)
   | inr new ↦ elim new [
-    | inl same ↦ absurd (let no : of h.1.kind ≡ false = none h.1 (subst (λ (j : Item). IsIn h.1 j.refs) (sym same) h.4) in let e : true ≡ false = sym h.5 ∙ no in cc)
+    | inl same ↦ absurd
+        (let no : of h.1.kind ≡ false = none h.1 (subst (λ (j : Item). IsIn h.1 j.refs) (sym same) h.4) in let e : true ≡ false = sym h.5 ∙ no in cc)
     | inr out ↦ absurd out
   ]
 ]
@@ -173,7 +181,8 @@ module _ (i : Item) (s : ItemStore) (bare : Bool) (nothing : KeepNothing i) wher
   pub added_kept : KeepsTheSame (added i s) s bare
   added_kept = record {
     there = each_kept (Kept s bare) (added i s) bare (kept_first s bare) (λ a b kept keeps. kept_next s bare a b kept (keeps_added a b keeps));
-    back = each_kept (Kept (added i s) bare) s bare (kept_first (added i s) bare) (λ a b kept keeps. kept_next (added i s) bare a b kept (added_keeps a b keeps));
+    back = each_kept (Kept (added i s) bare) s bare (kept_first (added i s) bare)
+        (λ a b kept keeps. kept_next (added i s) bare a b kept (added_keeps a b keeps));
   }
 
   in_more : (x : ℕ) (is : List Item) → IsIn x (ids_of is) → IsIn x (ids_of (is ++ i ∷ []))
@@ -181,7 +190,8 @@ module _ (i : Item) (s : ItemStore) (bare : Bool) (nothing : KeepNothing i) wher
   in_more x (j ∷ js) (inl e) = inl e
   in_more x (j ∷ js) (inr h) = inr (in_more x js h)
 
-  more_rise : (low : ℕ) (is : List Item) → low < i.id → ((id : ℕ) → IsIn id (ids_of is) → id < i.id) → RisesFrom ◌<◌ low (ids_of is) → RisesFrom ◌<◌ low (ids_of (is ++ i ∷ []))
+  more_rise : (low : ℕ) (is : List Item) → low < i.id → ((id : ℕ) → IsIn id (ids_of is) → id < i.id) → RisesFrom ◌<◌ low (ids_of is)
+      → RisesFrom ◌<◌ low (ids_of (is ++ i ∷ []))
   more_rise low [] first above up = (first, tt)
   more_rise low (j ∷ js) first above up = (up.0, more_rise j.id js (above j.id (inl refl)) (λ id h. above id (inr h)) up.1)
 

@@ -74,15 +74,18 @@ unfolding grown
 grown_has pairs all zero ids x there h = h
 grown_has pairs all (suc n) ids x there h = grown_has pairs all n (stepped pairs all ids) x there (step_has pairs all ids x there h)
 
-pub grown_rises : (pairs : List (ℕ × ℕ)) (all : List ℕ) (n low : ℕ) (ids : List ℕ) → RisesFrom ◌<◌ low all → RisesFrom ◌<◌ low ids → RisesFrom ◌<◌ low (grown pairs all n ids)
+pub grown_rises : (pairs : List (ℕ × ℕ)) (all : List ℕ) (n low : ℕ) (ids : List ℕ) → RisesFrom ◌<◌ low all → RisesFrom ◌<◌ low ids
+    → RisesFrom ◌<◌ low (grown pairs all n ids)
 unfolding grown
 grown_rises pairs all zero low ids whole up = up
-grown_rises pairs all (suc n) low ids whole up = grown_rises pairs all n low (stepped pairs all ids) whole (filter_rises (either ids (reached_from pairs ids)) low all whole)
+grown_rises pairs all (suc n) low ids whole up = grown_rises pairs all n low (stepped pairs all ids) whole
+    (filter_rises (either ids (reached_from pairs ids)) low all whole)
 
 -- ---- enough steps
 
 -- where one test passes what another does, both pass the same, or it passes more
-same_or_more : (t u : ℕ → Bool) (all : List ℕ) → ((x : ℕ) → IsIn x all → t x ≡ true → u x ≡ true) → (filter t all ≡ filter u all) ⊎ (length (filter t all) < length (filter u all))
+same_or_more : (t u : ℕ → Bool) (all : List ℕ) → ((x : ℕ) → IsIn x all → t x ≡ true → u x ≡ true)
+    → (filter t all ≡ filter u all) ⊎ (length (filter t all) < length (filter u all))
 same_or_more t u [] wider = inl refl
 same_or_more t u (x ∷ xs) wider =
     let rest = same_or_more t u xs (λ y h. wider y (inr h)) in
@@ -98,12 +101,16 @@ same_or_more t u (x ∷ xs) wider =
 
 fewer : (t : ℕ → Bool) (all : List ℕ) → length (filter t all) ≤ length all
 fewer t [] = omega arith
-fewer t (x ∷ xs) = let rest = fewer t xs in elim (cases_Bool (t x)) [ inl passed ↦ rw passed (omega (arith, rest)) | inr failed ↦ rw failed (omega (arith, rest)) ]
+fewer t (x ∷ xs) =
+    let rest = fewer t xs in
+    elim (cases_Bool (t x)) [ inl passed ↦ rw passed (omega (arith, rest)) | inr failed ↦ rw failed (omega (arith, rest)) ]
 
 whole : (t : ℕ → Bool) (all : List ℕ) → length all ≤ length (filter t all) → filter t all ≡ all
 whole t [] le = refl
 whole t (x ∷ xs) le = elim (cases_Bool (t x)) [
-  | inl passed ↦ let more : suc (length xs) ≤ suc (length (filter t xs)) = rw passed at le in rw passed (ap (λ (l : List ℕ). x ∷ l) (whole t xs (omega (arith, more))))
+  | inl passed ↦
+      let more : suc (length xs) ≤ suc (length (filter t xs)) = rw passed at le in
+      rw passed (ap (λ (l : List ℕ). x ∷ l) (whole t xs (omega (arith, more))))
   | inr failed ↦ let more : suc (length xs) ≤ length (filter t xs) = rw failed at le in absurd (omega (arith, more, fewer t xs))
 ]
 

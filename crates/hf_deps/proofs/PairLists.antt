@@ -41,7 +41,8 @@ pub item_more : (bare : Bool) (is : List Item) (k : ℕ) (i : Item) (old new : L
     → new ≡ old ++ flat_map (pairs_of bare i.id) i.refs → new ≡ keeping bare (take (k + 1) is)
 unfolding keeping
 item_more bare is k i old new here so_far more =
-    let all : take k is ++ i ∷ [] ≡ take (k + 1) is = ap (λ (j : Item). take k is ++ j ∷ []) (sym (at_or is k i i here)) ∙ sym (take_more is k i (within_at is k i here)) in
+    let all : take k is ++ i ∷ [] ≡ take (k + 1) is = ap (λ (j : Item). take k is ++ j ∷ []) (sym (at_or is k i i here))
+    ∙ sym (take_more is k i (within_at is k i here)) in
     more
     ∙ ap (λ (l : List (ℕ × ℕ)). l ++ item_pairs bare i) so_far
     ∙ flat_map_more (item_pairs bare) [] (take k is) i

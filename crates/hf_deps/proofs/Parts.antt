@@ -110,7 +110,8 @@ props_less : (test : Held → Bool) (before : List Prop) (hs : List Held) (after
 props_less test before [] after = itself (before ++ after)
 props_less test before (h ∷ hs) after =
     elim (cases_Bool (test h)) [
-      | inl here ↦ rw here (nested before (h.prop ∷ []) (props_in (filter test hs) ++ after) (props_in hs ++ after) (props_less test (before ++ h.prop ∷ []) hs after))
+      | inl here ↦ rw here
+          (nested before (h.prop ∷ []) (props_in (filter test hs) ++ after) (props_in hs ++ after) (props_less test (before ++ h.prop ∷ []) hs after))
       | inr gone ↦
           rw gone (transitive (before ++ (props_in (filter test hs) ++ after)) (before ++ (props_in hs ++ after)) (before ++ (h.prop ∷ (props_in hs ++ after)))
           (props_less test before hs after) (without_some before (h.prop ∷ []) (props_in hs ++ after)))
@@ -149,7 +150,8 @@ flat_map-parts : {B : Type 0} (g : Item → List B) → SaysNothing g → (is js
 flat_map-parts g same [] [] parts = refl
 flat_map-parts g same [] (j ∷ js) parts = absurd parts
 flat_map-parts g same (i ∷ is) [] parts = absurd parts
-flat_map-parts g same (i ∷ is) (j ∷ js) parts = ap (λ ys. ys ++ flat_map g js) (keeps g same i j parts.0) ∙ ap (λ ys. g i ++ ys) (flat_map-parts g same is js parts.1)
+flat_map-parts g same (i ∷ is) (j ∷ js) parts = ap (λ ys. ys ++ flat_map g js) (keeps g same i j parts.0)
+    ∙ ap (λ ys. g i ++ ys) (flat_map-parts g same is js parts.1)
 
 any-parts : (g : Item → Bool) → SaysNothing g → (is js : List Item) → AreParts is js → list_any g js ≡ list_any g is
 any-parts g same [] [] parts = refl
@@ -183,9 +185,11 @@ behind before (i ∷ is) (j ∷ js) parts =
     let now = flat_map props_of js in
     let old = flat_map props_of is in
     let test = parts.0.stays.0 in
-    let rest : IsLess (before ++ (props_of j ++ now)) (before ++ (props_of j ++ old)) = nested before (props_of j) now old (behind (before ++ props_of j) is js parts.1) in
+    let rest : IsLess (before ++ (props_of j ++ now)) (before ++ (props_of j ++ old)) = nested before (props_of j) now old
+    (behind (before ++ props_of j) is js parts.1) in
     let here : IsLess (before ++ (props_of j ++ old)) (before ++ (props_of i ++ old)) =
-    subst (λ (hs : List Held). IsLess (before ++ (props_in hs ++ old)) (before ++ (props_of i ++ old))) (sym parts.0.stays.1) (props_less test before i.props old)
+    subst (λ (hs : List Held). IsLess (before ++ (props_in hs ++ old)) (before ++ (props_of i ++ old))) (sym parts.0.stays.1)
+    (props_less test before i.props old)
     in
     transitive (before ++ (props_of j ++ now)) (before ++ (props_of j ++ old)) (before ++ (props_of i ++ old)) rest here
 

@@ -128,8 +128,11 @@ removal_is_forgotten s bare id valid out =
     let linked = valid_linked s bare valid in
     let all : (x : ℕ) → Kept s bare x → is_other id x ≡ true = λ x kept. differs x id (λ same. out (subst (Kept s bare) same kept)) in
     let left = removed id s in
-    let same : kept_ids bare left ≡ kept_ids bare s = same_ids left s bare (cut_linked (is_other id) s bare all linked) linked (cut_kept (is_other id) s bare all) in
-    let stay : (x : ℕ) → is_among (kept_ids bare s) x ≡ true → is_other id x ≡ true = λ x here. all x (told_kept s bare x (among_in x (kept_ids bare s) here)) in
+    let same : kept_ids bare left ≡ kept_ids bare s = same_ids left s bare (cut_linked (is_other id) s bare all linked) linked
+    (cut_kept (is_other id) s bare all) in
+    let stay : (x : ℕ) → is_among (kept_ids bare s) x ≡ true → is_other id x ≡ true =
+    λ x here. all x (told_kept s bare x (among_in x (kept_ids bare s) here))
+    in
     ap (λ (kept : List ℕ). all_bared (kept_only kept left)) same
     ∙ ap all_bared (cut_twice (is_among (kept_ids bare s)) (is_other id) stay s)
 

@@ -14,7 +14,8 @@ use Rattle.hf_deps.proofs.Among.{among_in, in_among, passes, to_filter, above}
 
 map_same : (t u : ℕ → Bool) (all : List ℕ) → ((x : ℕ) → IsIn x all → u x ≡ t x) → map t all ≡ map u all
 map_same t u [] same = refl
-map_same t u (x ∷ xs) same = ap (λ (b : Bool). b ∷ map t xs) (sym (same x (inl refl))) ∙ ap (λ (l : List Bool). u x ∷ l) (map_same t u xs (λ y h. same y (inr h)))
+map_same t u (x ∷ xs) same = ap (λ (b : Bool). b ∷ map t xs) (sym (same x (inl refl)))
+    ∙ ap (λ (l : List Bool). u x ∷ l) (map_same t u xs (λ y h. same y (inr h)))
 
 one_marked : (low : ℕ) (all : List ℕ) (k x : ℕ) (t u : ℕ → Bool) → RisesFrom ◌<◌ low all → k < length all → get_or all k 0 ≡ x → u x ≡ true
     → ((y : ℕ) → y ≢ x → u y ≡ t y) → set (map t all) k true ≡ map u all
@@ -49,7 +50,8 @@ abbrev open_at : Bool → ℕ
 open_at b = cond (not b) 1 0
 
 -- one more is marked
-more_marked : (all : List ℕ) (marks : List Bool) (reached : List ℕ) (k x : ℕ) → RisesFrom ◌<◌ 0 all → AreMarked all marks reached → k < length all → get_or all k 0 ≡ x
+more_marked : (all : List ℕ) (marks : List Bool) (reached : List ℕ) (k x : ℕ) → RisesFrom ◌<◌ 0 all → AreMarked all marks reached → k < length all
+    → get_or all k 0 ≡ x
     → get_or marks k false ≡ false → AreMarked all (set marks k true) (reached ++ x ∷ [])
 more_marked all marks reached k x up are less here open' =
     let size = marks_length all marks reached are in
@@ -58,7 +60,8 @@ more_marked all marks reached k x up are less here open' =
     record {
       marks_are =
           ap (λ (l : List Bool). set l k true) are.marks_are
-          ∙ one_marked 0 all k x (is_among reached) (is_among (reached ++ x ∷ [])) up less here (in_among x (reached ++ x ∷ []) (in_back x reached (x ∷ []) (inl refl)))
+          ∙ one_marked 0 all k x (is_among reached) (is_among (reached ++ x ∷ [])) up less here
+          (in_among x (reached ++ x ∷ []) (in_back x reached (x ∷ []) (inl refl)))
           (λ y other. among_push x y reached other);
       rest = omega (arith, are.rest, sums, old, length_push reached x);
     }
@@ -69,7 +72,8 @@ pub met_again : (all : List ℕ) (marks : List Bool) (reached : List ℕ) (k x :
 met_again all marks reached k x are less here marked =
     record { marked = are; grows = inl refl; there = among_in x reached (sym (marked_at all marks reached k x false are less here) ∙ marked) }
 
-pub met_first : (all : List ℕ) (marks : List Bool) (reached : List ℕ) (k x : ℕ) → RisesFrom ◌<◌ 0 all → AreMarked all marks reached → k < length all → get_or all k 0 ≡ x
+pub met_first : (all : List ℕ) (marks : List Bool) (reached : List ℕ) (k x : ℕ) → RisesFrom ◌<◌ 0 all → AreMarked all marks reached → k < length all
+    → get_or all k 0 ≡ x
     → get_or marks k false ≡ false → IsMet all x reached (set marks k true) (reached ++ x ∷ [])
 met_first all marks reached k x up are less here open' =
     record { marked = more_marked all marks reached k x up are less here open'; grows = inr refl; there = in_back x reached (x ∷ []) (inl refl) }
@@ -100,7 +104,8 @@ picked test all marks i x old are less here so_far marked =
     let holds : test x ≡ true = sym (at_map test all i x false less here) ∙ ap (λ (l : List Bool). get_or l i false) (sym are) ∙ marked in
     let one : filter test (x ∷ []) ≡ x ∷ [] = rw holds refl in
     let more : take (i + 1) all ≡ take i all ++ x ∷ [] = take_more all i 0 less ∙ ap (λ (y : ℕ). take i all ++ y ∷ []) here in
-    ap (λ (l : List ℕ). l ++ x ∷ []) so_far ∙ ap (λ (l : List ℕ). filter test (take i all) ++ l) (sym one) ∙ sym (filter-append test (take i all) (x ∷ [])) ∙ ap (filter test) (sym more)
+    ap (λ (l : List ℕ). l ++ x ∷ []) so_far ∙ ap (λ (l : List ℕ). filter test (take i all) ++ l) (sym one) ∙ sym (filter-append test (take i all) (x ∷ []))
+    ∙ ap (filter test) (sym more)
 
 pub passed_over : (test : ℕ → Bool) (all : List ℕ) (marks : List Bool) (i x : ℕ) (old : List ℕ) → marks ≡ map test all → i < length all → get_or all i 0 ≡ x
     → old ≡ filter test (take i all) → get_or marks i false ≡ false → old ≡ filter test (take (i + 1) all)
@@ -108,7 +113,8 @@ passed_over test all marks i x old are less here so_far unmarked =
     let fails : test x ≡ false = sym (at_map test all i x false less here) ∙ ap (λ (l : List Bool). get_or l i false) (sym are) ∙ unmarked in
     let none : filter test (x ∷ []) ≡ [] = rw fails refl in
     let more : take (i + 1) all ≡ take i all ++ x ∷ [] = take_more all i 0 less ∙ ap (λ (y : ℕ). take i all ++ y ∷ []) here in
-    so_far ∙ sym (append-nil (filter test (take i all))) ∙ ap (λ (l : List ℕ). filter test (take i all) ++ l) (sym none) ∙ sym (filter-append test (take i all) (x ∷ [])) ∙ ap (filter test) (sym more)
+    so_far ∙ sym (append-nil (filter test (take i all))) ∙ ap (λ (l : List ℕ). filter test (take i all) ++ l) (sym none)
+    ∙ sym (filter-append test (take i all) (x ∷ [])) ∙ ap (filter test) (sym more)
 
 -- ---- pairs
 
@@ -187,7 +193,8 @@ followed pairs users p first done old new grows there way =
     }
 
 -- all are done
-pub complete : (pairs : List (ℕ × ℕ)) (first done : ℕ) (reached : List ℕ) → length reached ≤ done → IsSpread pairs [] first done reached → IsClosed pairs reached
+pub complete : (pairs : List (ℕ × ℕ)) (first done : ℕ) (reached : List ℕ) → length reached ≤ done → IsSpread pairs [] first done reached
+    → IsClosed pairs reached
 complete pairs first done reached all way a b h pair =
     let front : IsIn a (take done reached) = subst (IsIn a) (sym (take_all done reached all)) h in
     elim (way.met a b front pair) [ inl k ↦ k | inr none ↦ absurd none ]

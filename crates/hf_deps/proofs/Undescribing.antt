@@ -59,7 +59,8 @@ filter_alike p q (x ∷ xs) same =
 abbrev stays : FourCc → Held → Bool
 stays kind h = not (is_optional_of kind h)
 
-thrice : (hs : List Held) → without_optional (four "mdft") (without_optional (four "crtt") (without_optional (four "udes") hs)) ≡ filter (λ (h : Held). not (is_description h)) hs
+thrice : (hs : List Held)
+    → without_optional (four "mdft") (without_optional (four "crtt") (without_optional (four "udes") hs)) ≡ filter (λ (h : Held). not (is_description h)) hs
 thrice hs =
     let first = stays (four "udes") in
     let second = stays (four "crtt") in
@@ -93,7 +94,8 @@ pub valid_without : (k : ℕ) (kind : FourCc) (s : ItemStore) → Valid s → Va
 valid_without k kind s valid = valid_part_at (lacking_optional kind) (lacking_part kind) k s valid
 
 pub all_dropped : (k : ℕ) (s : ItemStore)
-    → without_optionals k (four "mdft") (without_optionals k (four "crtt") (without_optionals k (four "udes") s)) ≡ record s { items = changed_at undescribed k s.items }
+    → without_optionals k (four "mdft") (without_optionals k (four "crtt") (without_optionals k (four "udes") s))
+    ≡ record s { items = changed_at undescribed k s.items }
 all_dropped k s =
     let first = lacking_optional (four "udes") in
     let second = lacking_optional (four "crtt") in
@@ -107,9 +109,6 @@ all_dropped k s =
 module _ (k : ℕ) (kind : FourCc) (s t : ItemStore) (is : t ≡ without_optionals k kind s) where
   pub place_without : k < length s.items → k < length t.items
   place_without less = omega (arith, less, ap (λ (u : ItemStore). length u.items) is, length-changed (lacking_optional kind) k s.items)
-
-  pub valid_left : Valid s → Valid t
-  valid_left valid = subst Valid (sym is) (valid_without k kind s valid)
 
 -- ---- all items
 

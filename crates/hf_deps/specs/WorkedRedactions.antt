@@ -1,7 +1,7 @@
 -- A worked store and its redactions: chains of items of which one keeps the next, and what refers to them.
 use Rattle.std.specs.Prelude.{ℕ, true, List, [], ◌∷◌, codes}
 use Rattle.hf_box.specs.Literals.{hex_of}
-use Rattle.hf_store.specs.Store.{Item, Group, ItemStore}
+use Rattle.hf_store.specs.Store.{Held, Item, Group, ItemStore}
 use Rattle.hf_store.specs.declared.item.RefList.{RefList}
 use Rattle.hf_worked.specs.WorkedChanges.{alternatives, pair_with_tail}
 use Rattle.hf_worked.specs.WorkedStores.{heic, plain, essential, optional, references}
@@ -24,6 +24,9 @@ thumbnail = picture 2 (references "thmb" (5 ∷ []) ∷ [])
 abbrev pub auxiliary : Item
 auxiliary = picture 4 (references "auxl" (2 ∷ []) ∷ [])
 
+abbrev pub kept_size : Held
+kept_size = optional "ispe" (hex_of "04")
+
 -- the seventh is what metadata alone describes and needs; it needs the primary item itself
 unfoldable pub described_chain : ItemStore
 described_chain = chained
@@ -31,7 +34,7 @@ described_chain = chained
     record (picture 1 (references "cdsc" (7 ∷ []) ∷ references "prem" (3 ∷ []) ∷ [])) {
       hidden = true;
       name = codes "IMG";
-      props = essential "udes" (hex_of "01") ∷ optional "udes" (hex_of "02") ∷ optional "crtt" (hex_of "03") ∷ optional "ispe" (hex_of "04") ∷ optional "mdft" (hex_of "05") ∷ [];
+      props = essential "udes" (hex_of "01") ∷ optional "udes" (hex_of "02") ∷ optional "crtt" (hex_of "03") ∷ kept_size ∷ optional "mdft" (hex_of "05") ∷ [];
     }
     ∷ record thumbnail { name = codes "small"; props = optional "crtt" (hex_of "03") ∷ [] }
     ∷ third
@@ -45,7 +48,7 @@ described_chain = chained
 
 -- what a redaction leaves of the primary item
 abbrev pub bared_first : Item
-bared_first = record (picture 1 (references "prem" (3 ∷ []) ∷ [])) { hidden = true; props = essential "udes" (hex_of "01") ∷ optional "ispe" (hex_of "04") ∷ [] }
+bared_first = record (picture 1 (references "prem" (3 ∷ []) ∷ [])) { hidden = true; props = essential "udes" (hex_of "01") ∷ kept_size ∷ [] }
 
 abbrev pub fifth : Item
 fifth = record (picture 5 []) { props = essential "mdft" (hex_of "06") ∷ [] }

@@ -16,7 +16,8 @@ reach-requires-clause-ends c =
     subst (HasEnds (ids_of s.items)) (sym c.deref.ensures.value) (pairs_end s c.args.bare c.valid.ensures pairs c.in_ok-pairs.ensures.moved)
 
 -- the ids that are marked
-told : (c : goal.After-drop-pairs-2) (ids : List ℕ) → ((test : ℕ → Bool) → c.deref-2.result.now ≡ map test (ids_of c.args.store.now.items) → ids ≡ filter test (ids_of c.args.store.now.items))
+told : (c : goal.After-drop-pairs-2) (ids : List ℕ)
+    → ((test : ℕ → Bool) → c.deref-2.result.now ≡ map test (ids_of c.args.store.now.items) → ids ≡ filter test (ids_of c.args.store.now.items))
     → ids ≡ kept_ids c.args.bare c.args.store.now
 told c ids picked =
     let s = c.args.store.now in

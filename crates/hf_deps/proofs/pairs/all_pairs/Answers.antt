@@ -8,4 +8,5 @@ loop-i-init c = none_yet c.args.bare c.new-pairs.result.items c.new-pairs.ensure
 pub loop-i-preserved : goal.loop-i-preserved
 loop-i-preserved c =
     let item = item_of c.at.result.now in
-    item_more c.args.bare c.args.store.now.items c.loop-i.i item c.loop-i.pairs.items c.add_item.new.pairs.items c.at.ensures c.loop-i.invariant c.in_ok-add_item.ensures
+    item_more c.args.bare c.args.store.now.items c.loop-i.i item c.loop-i.pairs.items c.add_item.new.pairs.items c.at.ensures c.loop-i.invariant
+    c.in_ok-add_item.ensures

@@ -19,7 +19,8 @@ loop-pair-init c =
     in
     record {
       marked = c.requires.marked;
-      spread = subst (λ (l : List (ℕ × ℕ)). IsSpread pairs l first (done + 1) reached) (sym kept) (taken pairs first done reached c.requires.more c.requires.spread);
+      spread = subst (λ (l : List (ℕ × ℕ)). IsSpread pairs l first (done + 1) reached) (sym kept)
+          (taken pairs first done reached c.requires.more c.requires.spread);
     }
 
 pub meet-requires-clause-there : goal.meet-requires-clause-there
@@ -38,7 +39,8 @@ loop-pair-preserved c =
     let first = c.args.store.now.primary in
     let old = c.loop-pair.reached.items in
     let met = c.in_ok-meet.ensures in
-    let way = subst (λ (l : List (ℕ × ℕ)). IsSpread pairs l first (c.args.done + 1) old) (drop_more kept i (0, 0) c.loop-pair-test.true) c.loop-pair.invariant.spread in
+    let way = subst (λ (l : List (ℕ × ℕ)). IsSpread pairs l first (c.args.done + 1) old)
+    (drop_more kept i (0, 0) c.loop-pair-test.true) c.loop-pair.invariant.spread in
     record {
       marked = met.marked;
       spread = followed pairs (drop (i + 1) kept) (get_or kept i (0, 0)) first (c.args.done + 1) old c.meet.new.reached.items met.grows met.there way;

@@ -17,6 +17,8 @@ loop-i-preserved c = λ test e.
       | then-is_marked+in_ok-push w ↦
           let item = item_of w.at.result.now in
           let here = at_or all i item.id 0 (id_here items i item w.at.ensures) in
-          w.ids-is ∙ w.in_ok-push.ensures.pushed ∙ picked test all c.args.marks.now i item.id c.loop-i.ids e less here (c.loop-i.invariant test e) w.if-is_marked.true
-      | else-is_marked w ↦ w.ids-is ∙ passed_over test all c.args.marks.now i (get_or all i 0) c.loop-i.ids e less refl (c.loop-i.invariant test e) w.if-is_marked.false
+          w.ids-is ∙ w.in_ok-push.ensures.pushed
+          ∙ picked test all c.args.marks.now i item.id c.loop-i.ids e less here (c.loop-i.invariant test e) w.if-is_marked.true
+      | else-is_marked w ↦ w.ids-is
+          ∙ passed_over test all c.args.marks.now i (get_or all i 0) c.loop-i.ids e less refl (c.loop-i.invariant test e) w.if-is_marked.false
     ]

@@ -10,7 +10,8 @@ returns-in_ok-push c =
     let all = ids_of c.args.store.now.items in
     let k = c.in-Some.place in
     let here = c.in-Some.ensures.some in
-    let met = met_first all c.args.marks.now c.args.reached.now.items k c.args.id c.position.ensures.valid.ids_rise c.requires.marked (within_at all k c.args.id here) (at_or all k c.args.id 0 here) c.if-not-marks-place.true in
+    let met = met_first all c.args.marks.now c.args.reached.now.items k c.args.id c.position.ensures.valid.ids_rise c.requires.marked
+    (within_at all k c.args.id here) (at_or all k c.args.id 0 here) c.if-not-marks-place.true in
     subst (λ (new : List ℕ). IsMet all c.args.id c.args.reached.now.items (set c.args.marks.now k true) new) (sym c.in_ok-push.ensures.items) met
 
 pub returns-else-not-marks-place : goal.returns-else-not-marks-place
@@ -18,4 +19,5 @@ returns-else-not-marks-place c =
     let all = ids_of c.args.store.now.items in
     let k = c.in-Some.place in
     let here = c.in-Some.ensures.some in
-    met_again all c.args.marks.now c.args.reached.now.items k c.args.id c.requires.marked (within_at all k c.args.id here) (at_or all k c.args.id 0 here) c.if-not-marks-place.false
+    met_again all c.args.marks.now c.args.reached.now.items k c.args.id c.requires.marked (within_at all k c.args.id here)
+    (at_or all k c.args.id 0 here) c.if-not-marks-place.false
