@@ -1,1 +1,12 @@
+pub mod Among
+pub mod Chains
+pub mod Cutting
+pub mod CutTwice
+pub mod Grown
+pub mod KeptIds
 pub mod Needers
+pub mod PairLists
+pub mod Parts
+pub mod Redactions
+pub mod Spread
+pub mod Undescribing
