@@ -22,7 +22,8 @@ pub record IsCut (seed k n size : ℕ) (rest : List ℕ) : Type 0 where
   pub front : take size rest ≡ tile_bytes seed k
   pub back : drop size rest ≡ flat_map (tile_bytes seed) (range_with_len (k + 1) (n - 1))
 
-pub cut-tile : (seed k n size : ℕ) (rest : List ℕ) → 0 < n → rest ≡ flat_map (tile_bytes seed) (range_with_len k n) → size ≡ tile_size seed k → IsCut seed k n size rest
+pub cut-tile : (seed k n size : ℕ) (rest : List ℕ)
+    → 0 < n → rest ≡ flat_map (tile_bytes seed) (range_with_len k n) → size ≡ tile_size seed k → IsCut seed k n size rest
 cut-tile seed k n size rest some is e =
     let behind = flat_map (tile_bytes seed) (range_with_len (k + 1) (n - 1)) in
     let whole : rest ≡ tile_bytes seed k ++ behind = is ∙ flat_map-first (tile_bytes seed) k n some in
@@ -34,7 +35,8 @@ cut-tile seed k n size rest some is e =
     }
 
 -- one more tile
-pub items-pushed : (seed k : ℕ) (now new : List Item) (i : Item) (bytes hvcc ispe : List ℕ) → items_of now ≡ map (tile seed) (range_with_len 1 k) → new ≡ now ++ i ∷ []
+pub items-pushed : (seed k : ℕ) (now new : List Item) (i : Item) (bytes hvcc ispe : List ℕ)
+    → items_of now ≡ map (tile seed) (range_with_len 1 k) → new ≡ now ++ i ∷ []
     → item_of i ≡ tile_of (k + 1) bytes hvcc ispe → bytes ≡ tile_bytes seed (k + 1) → hvcc ≡ hvcc_body seed → ispe ≡ ispe_body 64 64
     → items_of new ≡ map (tile seed) (range_with_len 1 (k + 1))
 items-pushed seed k now new i bytes hvcc ispe before pushed is b h p =
@@ -70,7 +72,9 @@ length-tail_of s bytes shares = simp length-append (omega arith)
 pub are_trial : (seed n : ℕ) (s : Shares) (bytes : List ℕ) → AreShares s bytes → bytes ≡ trial_bytes seed n → AreTrial seed n s
 unfolding trial_bytes trial_tail
 are_trial seed n s bytes shares is =
-    let whole = same-ends s.tiles.now (tail_of s) (flat_map (tile_bytes seed) (tile_ids n)) (trial_tail seed n) (sym shares.whole ∙ is) (length-tail_of s bytes shares ∙ sym (length-trial_tail seed n)) in
+    let tiles = flat_map (tile_bytes seed) (tile_ids n) in
+    let long = length-tail_of s bytes shares ∙ sym (length-trial_tail seed n) in
+    let whole = same-ends s.tiles.now (tail_of s) tiles (trial_tail seed n) (sym shares.whole ∙ is) long in
     let four = same-ends _ s.grid_ispe.now _ (ispe_body 1024 (64 * n)) whole.1 (shares.grid_ispe ∙ sym (length-ispe_body 1024 (64 * n))) in
     let three = same-ends _ s.tile_ispe.now _ (ispe_body 64 64) four.0 (shares.tile_ispe ∙ sym (length-ispe_body 64 64)) in
     let two = same-ends _ s.hvcc.now _ (hvcc_body seed) three.0 (shares.hvcc ∙ sym (length-hvcc_body seed)) in

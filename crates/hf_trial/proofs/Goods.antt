@@ -13,7 +13,7 @@ use Rattle.hf_store.specs.Store.{Item, ids_of}
 use Rattle.hf_store.specs.Valid.{IsGoodItem}
 use Rattle.hf_store.proofs.Tables.{in_right}
 use Rattle.hf_trial.specs.Bytes.{tile_ids, grid_bytes}
-use Rattle.hf_trial.specs.Trial.{grid_id, exif_id, tile, grid, exif}
+use Rattle.hf_trial.specs.Trial.{grid_id, exif_id, tile, grid, exif, trial_items}
 use Rattle.hf_trial.proofs.Ranges.{rises-on, all_in}
 
 -- ---- ids
@@ -26,18 +26,21 @@ ids-tiles : (seed a n : ℕ) → ids_of (map (tile seed) (range_with_len a n)) �
 ids-tiles seed a zero = refl
 ids-tiles seed a (suc n) = ap (λ (ids : List ℕ). a ∷ ids) (ids-tiles seed (a + 1) n)
 
-pub ids-trial : (seed n : ℕ) → ids_of (map (tile seed) (tile_ids n) ++ others n) ≡ tile_ids n ++ grid_id n ∷ exif_id n ∷ []
+pub ids-trial : (seed n : ℕ) → ids_of (trial_items seed n) ≡ tile_ids n ++ grid_id n ∷ exif_id n ∷ []
 ids-trial seed n =
     map-append (λ (i : Item). i.id) (map (tile seed) (tile_ids n)) (others n)
     ∙ ap (λ (ids : List ℕ). ids ++ grid_id n ∷ exif_id n ∷ []) (ids-tiles seed 1 (16 * n))
 
-pub trial_rises : (seed n : ℕ) → RisesFrom ◌<◌ 0 (ids_of (map (tile seed) (tile_ids n) ++ others n))
-trial_rises seed n = subst (λ (ids : List ℕ). RisesFrom ◌<◌ 0 ids) (sym (ids-trial seed n)) (rises-on 0 1 (16 * n) (grid_id n) (exif_id n) (omega arith) (omega arith) (omega arith) (omega arith))
+pub trial_rises : (seed n : ℕ) → RisesFrom ◌<◌ 0 (ids_of (trial_items seed n))
+trial_rises seed n =
+    let rises = rises-on 0 1 (16 * n) (grid_id n) (exif_id n) (omega arith) (omega arith) (omega arith) (omega arith) in
+    subst (λ (ids : List ℕ). RisesFrom ◌<◌ 0 ids) (sym (ids-trial seed n)) rises
 
-pub grid_in : (seed n : ℕ) → IsIn (grid_id n) (ids_of (map (tile seed) (tile_ids n) ++ others n))
-grid_in seed n = subst (λ (ids : List ℕ). IsIn (grid_id n) ids) (sym (ids-trial seed n)) (in_right (grid_id n) (tile_ids n) (grid_id n ∷ exif_id n ∷ []) (inl refl))
+pub grid_in : (seed n : ℕ) → IsIn (grid_id n) (ids_of (trial_items seed n))
+grid_in seed n =
+    subst (λ (ids : List ℕ). IsIn (grid_id n) ids) (sym (ids-trial seed n)) (in_right (grid_id n) (tile_ids n) (grid_id n ∷ exif_id n ∷ []) (inl refl))
 
-tiles_in : (seed n : ℕ) → AllByRecursion (λ id. IsIn id (ids_of (map (tile seed) (tile_ids n) ++ others n))) (tile_ids n)
+tiles_in : (seed n : ℕ) → AllByRecursion (λ id. IsIn id (ids_of (trial_items seed n))) (tile_ids n)
 tiles_in seed n =
     subst (λ (ids : List ℕ). AllByRecursion (λ id. IsIn id ids) (tile_ids n)) (sym (ids-trial seed n)) (all_in (tile_ids n) (grid_id n ∷ exif_id n ∷ []))
 
@@ -70,7 +73,7 @@ good_tile is seed k few =
       fits = search arith;
     }
 
-good_grid : (seed n : ℕ) → 1 ≤ n → n ≤ 256 → IsGoodItem (map (tile seed) (tile_ids n) ++ others n) (grid n)
+good_grid : (seed n : ℕ) → 1 ≤ n → n ≤ 256 → IsGoodItem (trial_items seed n) (grid n)
 good_grid seed n some few =
     let count = length-range_with_len 1 (16 * n) in
     record {
@@ -89,7 +92,7 @@ good_grid seed n some few =
       fits = grid_fits n some few;
     }
 
-good_exif : (seed n : ℕ) → n ≤ 256 → IsGoodItem (map (tile seed) (tile_ids n) ++ others n) (exif n)
+good_exif : (seed n : ℕ) → n ≤ 256 → IsGoodItem (trial_items seed n) (exif n)
 good_exif seed n few =
     record {
       id = omega arith;
@@ -107,10 +110,11 @@ good_exif seed n few =
       fits = search arith;
     }
 
-good_tiles : (is rest : List Item) (seed a n : ℕ) → a + n < 256 ^ 4 → AllByRecursion (IsGoodItem is) rest → AllByRecursion (IsGoodItem is) (map (tile seed) (range_with_len a n) ++ rest)
+good_tiles : (is rest : List Item) (seed a n : ℕ) → a + n < 256 ^ 4 → AllByRecursion (IsGoodItem is) rest
+    → AllByRecursion (IsGoodItem is) (map (tile seed) (range_with_len a n) ++ rest)
 good_tiles is rest seed a zero few good = good
 good_tiles is rest seed a (suc n) few good = (good_tile is seed a (omega arith), good_tiles is rest seed (a + 1) n (omega arith) good)
 
-pub all_good : (seed n : ℕ) → 1 ≤ n → n ≤ 256 → AllByRecursion (IsGoodItem (map (tile seed) (tile_ids n) ++ others n)) (map (tile seed) (tile_ids n) ++ others n)
+pub all_good : (seed n : ℕ) → 1 ≤ n → n ≤ 256 → AllByRecursion (IsGoodItem (trial_items seed n)) (trial_items seed n)
 all_good seed n some few =
-    good_tiles (map (tile seed) (tile_ids n) ++ others n) (others n) seed 1 (16 * n) (omega arith) (good_grid seed n some few, (good_exif seed n few, tt))
+    good_tiles (trial_items seed n) (others n) seed 1 (16 * n) (omega arith) (good_grid seed n some few, (good_exif seed n few, tt))

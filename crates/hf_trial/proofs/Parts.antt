@@ -15,8 +15,8 @@ map-pushed f first now new j x before pushed is =
     ∙ ap (λ (xs : List ℕ). first ++ xs) (sym (map-range_with_len_more f 0 j j (omega arith)))
 
 -- five lists, one behind the other
-pub five-more : (first a b c d e all one two three four five : List ℕ) → one ≡ first ++ a → two ≡ one ++ b → three ≡ two ++ c → four ≡ three ++ d → five ≡ four ++ e
-    → all ≡ a ++ b ++ c ++ d ++ e → five ≡ first ++ all
+pub five-more : (first a b c d e all one two three four five : List ℕ) → one ≡ first ++ a
+    → two ≡ one ++ b → three ≡ two ++ c → four ≡ three ++ d → five ≡ four ++ e → all ≡ a ++ b ++ c ++ d ++ e → five ≡ first ++ all
 five-more first a b c d e all one two three four five p q r s t is = rw (is, t, s, r, q, p) (simp append_assoc)
 
 -- lists that are equal, and whose fronts are equally long

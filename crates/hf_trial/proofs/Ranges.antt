@@ -7,7 +7,9 @@ use Rattle.hf_base.specs.Members.{IsIn, RisesFrom}
 
 pub range-more : (a n m j : ℕ) → m ≡ n + 1 → j ≡ a + n → range_with_len a m ≡ range_with_len a n ++ j ∷ []
 range-more a zero m j e f = let m_is : m ≡ 1 = omega arith in let j_is : j ≡ a = omega arith in rw (m_is, j_is) refl
-range-more a (suc n) m j e f = let m_is : m ≡ suc (n + 1) = omega arith in rw m_is (ap (λ (xs : List ℕ). a ∷ xs) (range-more (a + 1) n (n + 1) j refl (omega arith)))
+range-more a (suc n) m j e f =
+    let m_is : m ≡ suc (n + 1) = omega arith in
+    rw m_is (ap (λ (xs : List ℕ). a ∷ xs) (range-more (a + 1) n (n + 1) j refl (omega arith)))
 
 pub flat_map-more : (f : ℕ → List ℕ) (n : ℕ) → flat_map f (range_with_len 1 (n + 1)) ≡ flat_map f (range_with_len 1 n) ++ f (n + 1)
 flat_map-more f n =

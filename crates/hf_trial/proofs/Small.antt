@@ -1,5 +1,5 @@
 -- What is counted over a trial is small.
-use Rattle.std.proofs.Common.{◌≡◌, ℕ, zero, suc, ◌+◌, ◌*◌, ◌%◌, ◌≤◌, Bool, true, false, ltb, [], ◌∷◌, ◌++◌, length, length-append, map, refl, arith}
+use Rattle.std.proofs.Common.{◌≡◌, ℕ, zero, suc, ◌+◌, ◌*◌, ◌%◌, ◌≤◌, Bool, true, false, ltb, [], ◌∷◌, length, length-append, map, refl, arith}
 use Rattle.std.specs.Prelude.{◌==◌, cond}
 use Rattle.std.specs.List.{range_with_len, sum_by}
 use Rattle.std.proofs.lemmas.List.Sums.{sum_by-cons, sum_by-append}
@@ -13,7 +13,7 @@ use Rattle.hf_store.specs.Sizes.{short_inner, meta_body_size, meta_size_by}
 use Rattle.hf_store.specs.declared.tally.Counts.{Counts}
 use Rattle.hf_store.proofs.BoxLengths.{box_len-le}
 use Rattle.hf_trial.specs.Bytes.{ispe_body, hvcc_body, tile_bytes, grid_bytes, tile_size, tile_ids}
-use Rattle.hf_trial.specs.Trial.{tile, grid, exif}
+use Rattle.hf_trial.specs.Trial.{tile, grid, exif, trial_items}
 use Rattle.hf_trial.proofs.Goods.{others}
 
 -- ---- lengths
@@ -39,12 +39,14 @@ length-grid_bytes n = simp (length-append, length-num) refl
 -- of the tiles, where each has at most so many
 sum-tiles : (f : Item → ℕ) (seed most a n : ℕ) → ((k : ℕ) → f (tile seed k) ≤ most) → sum_by f (map (tile seed) (range_with_len a n)) ≤ n * most
 sum-tiles f seed most a zero each = omega arith
-sum-tiles f seed most a (suc n) each = omega (arith, sum_by-cons f (tile seed a) (map (tile seed) (range_with_len (a + 1) n)), each a, sum-tiles f seed most (a + 1) n each)
+sum-tiles f seed most a (suc n) each =
+    omega (arith, sum_by-cons f (tile seed a) (map (tile seed) (range_with_len (a + 1) n)), each a, sum-tiles f seed most (a + 1) n each)
 
 -- and of all items
-pub sum-trial : (f : Item → ℕ) (seed most n : ℕ) → ((k : ℕ) → f (tile seed k) ≤ most) → sum_by f (map (tile seed) (tile_ids n) ++ others n) ≤ 16 * n * most + f (grid n) + f (exif n)
+pub sum-trial : (f : Item → ℕ) (seed most n : ℕ) → ((k : ℕ) → f (tile seed k) ≤ most) → sum_by f (trial_items seed n) ≤ 16 * n * most + f (grid n) + f (exif n)
 sum-trial f seed most n each =
-    omega (arith, sum_by-append f (map (tile seed) (tile_ids n)) (others n), sum_by-cons f (grid n) (exif n ∷ []), sum_by-cons f (exif n) [], sum-tiles f seed most 1 (16 * n) each)
+    let both = sum_by-cons f (grid n) (exif n ∷ []) in
+    omega (arith, sum_by-append f (map (tile seed) (tile_ids n)) (others n), both, sum_by-cons f (exif n) [], sum-tiles f seed most 1 (16 * n) each)
 
 -- ---- `meta`
 
@@ -80,7 +82,8 @@ meta-small wide n props c small light =
     let b = short_inner wide props c in
     let one : id_width wide ≤ 4 = omega (arith, wide-le wide 1) in
     let iinf = box_len-le (4 + id_width wide + b.infes) in
-    let iref = cond-le (c.links == 0) 0 (box_len (4 + b.links)) 200000 (omega arith) (omega (arith, box_len-le (4 + b.links), wide-le wide c.links, wide-le wide c.targets)) in
+    let links : box_len (4 + b.links) ≤ 200000 = omega (arith, box_len-le (4 + b.links), wide-le wide c.links, wide-le wide c.targets) in
+    let iref = cond-le (c.links == 0) 0 (box_len (4 + b.links)) 200000 (omega arith) links in
     let ipco = box_len-le props in
     let ipma = box_len-le (8 + c.holders * (1 + id_width wide) + c.picks * (1 + bit (ltb 127 n))) in
     let iprp = box_len-le (box_len props + box_len (8 + c.holders * (1 + id_width wide) + c.picks * (1 + bit (ltb 127 n)))) in

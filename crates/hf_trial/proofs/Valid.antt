@@ -1,5 +1,6 @@
 -- Each trial is a valid store.
-use Rattle.std.proofs.Common.{◌≡◌, ℕ, zero, suc, ◌+◌, ◌*◌, ◌<◌, ◌≤◌, Bool, true, false, cond, List, [], ◌∷◌, ◌++◌, length, length-append, map, refl, sym, ap, subst, ◌∙◌, arith, inr}
+use Rattle.std.proofs.Common.{◌≡◌, ℕ, zero, suc, ◌+◌, ◌*◌, ◌<◌, ◌≤◌, Bool, true, false, cond, List, []}
+use Rattle.std.proofs.Common.{◌∷◌, ◌++◌, length, length-append, map, refl, sym, ap, subst, ◌∙◌, arith, inr}
 use Rattle.std.specs.Prelude.{◌==◌, nat_lt, fold, if◌then◌else◌}
 use Rattle.std.specs.List.{AllByRecursion, flat_map, list_all, list_any, range_with_len}
 use Rattle.std.proofs.lemmas.Bool.{eq-eqb, ne_eqb}
@@ -21,7 +22,7 @@ use Rattle.hf_store.proofs.CountsAre.{counts_are, sum-zero}
 use Rattle.hf_store.proofs.Ends.{ends}
 use Rattle.hf_store.proofs.MetaCounts.{all_in_table, good_fours, meta_is_counted}
 use Rattle.hf_trial.specs.Bytes.{tile_ids, tile_bytes, grid_bytes, exif_bytes, trial_tail, trial_bytes}
-use Rattle.hf_trial.specs.Trial.{grid_id, tile, grid, trial_store_of}
+use Rattle.hf_trial.specs.Trial.{grid_id, tile, grid, trial_store_of, trial_items}
 use Rattle.hf_trial.proofs.Goods.{others, trial_rises, grid_in, all_good}
 use Rattle.hf_trial.proofs.Small.{length-tile_bytes, length-ispe_body, length-hvcc_body, length-grid_bytes, sum-trial, AreSmall, cond-le, meta-small}
 
@@ -49,16 +50,16 @@ no_pairs-tiles : (seed a n : ℕ) → input_pairs (map (tile seed) (range_with_l
 no_pairs-tiles seed a zero = refl
 no_pairs-tiles seed a (suc n) = no_pairs-tiles seed (a + 1) n
 
-pairs-trial : (seed n : ℕ) → input_pairs (map (tile seed) (tile_ids n) ++ others n) ≡ map (λ to. (grid_id n, to)) (tile_ids n)
+pairs-trial : (seed n : ℕ) → input_pairs (trial_items seed n) ≡ map (λ to. (grid_id n, to)) (tile_ids n)
 pairs-trial seed n =
     flat_map-append (λ (i : Item). map (λ to. (i.id, to)) (inputs i.refs)) (map (tile seed) (tile_ids n)) (others n)
     ∙ ap (λ (ps : List (ℕ × ℕ)). ps ++ input_pairs (others n)) (no_pairs-tiles seed 1 (16 * n))
     ∙ append-nil (map (λ to. (grid_id n, to)) (tile_ids n))
 
-trial_ends : (seed n : ℕ) (walk : ℕ → ℕ) → IsEndless (input_pairs (map (tile seed) (tile_ids n) ++ others n)) walk → ⊥
+trial_ends : (seed n : ℕ) (walk : ℕ → ℕ) → IsEndless (input_pairs (trial_items seed n)) walk → ⊥
 trial_ends seed n =
     let falls = falls-grid (grid_id n) 1 (16 * n) (omega arith) in
-    ends (rank (grid_id n)) (input_pairs (map (tile seed) (tile_ids n) ++ others n))
+    ends (rank (grid_id n)) (input_pairs (trial_items seed n))
     (subst (λ (ps : List (ℕ × ℕ)). list_all (λ (p : ℕ × ℕ). nat_lt (rank (grid_id n) p.1) (rank (grid_id n) p.0)) ps ≡ true) (sym (pairs-trial seed n)) falls)
 
 -- ---- distinct properties
@@ -97,11 +98,12 @@ trial_counts : (seed n : ℕ) → n ≤ 256 → AreSmall (counts_of (trial_store
 unfolding counts_of trial_store_of exif_bytes
 trial_counts seed n few =
     let one = length-num 1 0 in
-    let none = sum-zero (map (tile seed) (tile_ids n) ++ others n) in
+    let grid_has = bit-le (has_bytes (grid_bytes n)) in
+    let none = sum-zero (trial_items seed n) in
     let idat = cond-le (in_idat (grid n)) (length (grid_bytes n)) 0 8 (omega (arith, length-grid_bytes n)) (omega arith) in
     record {
       items = omega (arith, sum-trial (λ (i : Item). (counts_of_item i).items) seed 1 n (λ k. omega arith));
-      located = omega (arith, sum-trial (λ (i : Item). (counts_of_item i).located) seed 1 n (λ k. bit-le (has_bytes (tile_bytes seed k))), bit-le (has_bytes (grid_bytes n)));
+      located = omega (arith, sum-trial (λ (i : Item). (counts_of_item i).located) seed 1 n (λ k. bit-le (has_bytes (tile_bytes seed k))), grid_has);
       strings = omega (arith, one, sum-trial (λ (i : Item). (counts_of_item i).strings) seed 1 n (λ k. omega (arith, one)));
       links = omega (arith, sum-trial (λ (i : Item). (counts_of_item i).links) seed 0 n (λ k. omega arith));
       targets = omega (arith, sum-trial (λ (i : Item). (counts_of_item i).targets) seed 0 n (λ k. omega arith), length-range_with_len 1 (16 * n));
@@ -137,7 +139,8 @@ unfolding trial_store_of
 trial_meta seed n some few =
     let s = trial_store_of seed n in
     let light = short-sum (table_of s) (all_in_table IsShort s (trial_short seed n)) in
-    let small = meta-small (is_wide s.items) (length (table_of s)) (short_props (table_of s)) (counts_of s) (trial_counts seed n few) (omega (arith, light, trial_kinds seed n few)) in
+    let props : short_props (table_of s) ≤ 200000 = omega (arith, light, trial_kinds seed n few) in
+    let small = meta-small (is_wide s.items) (length (table_of s)) (short_props (table_of s)) (counts_of s) (trial_counts seed n few) props in
     let within : counted_meta s ≤ limits.META = omega (arith, small) in
     let meta = (meta_is_counted s (good_fours s (all_good seed n some few) tt) (inr within)).1 in
     omega (arith, meta, within)

@@ -83,11 +83,15 @@ exif n = exif_of n exif_bytes
 
 -- ---- the store, and its bytes
 
--- the tiles by rising id, the grid, which is the primary, and its metadata
+-- the tiles by rising id, the grid, and its metadata
+abbrev pub trial_items : ℕ → ℕ → List Item
+trial_items seed n = map (tile seed) (tile_ids n) ++ grid n ∷ exif n ∷ []
+
+-- these items, of which the grid is the primary
 unfoldable pub trial_store_of : ℕ → ℕ → ItemStore
 trial_store_of seed n = record {
   brands = heic;
   primary = grid_id n;
-  items = map (tile seed) (tile_ids n) ++ grid n ∷ exif n ∷ [];
+  items = trial_items seed n;
   groups = [];
 }

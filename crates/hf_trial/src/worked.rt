@@ -1,6 +1,6 @@
 //! Worked trials. Each is the contract of a function that does nothing.
 
-ghost use Rattle.std.specs.Prelude.{◌≡◌, length, map, take};
+ghost use Rattle.std.specs.Prelude.{◌≡◌, ◌++◌, length, map, take};
 ghost use Rattle.std.specs.List.{range_with_len};
 ghost use Rattle.hf_box.specs.Literals.{hex_of};
 ghost use Rattle.hf_store.specs.Counts.{counts_of};
@@ -33,7 +33,9 @@ pub fn others_have_their_bytes()
     ensures most { grid_bytes 256 ≡ hex_of "0000ff0f 0400 4000" }
     ensures hvcc { hvcc_body 4294967294 ≡ hex_of "fffffffe" }
     ensures ispe { ispe_body 1024 256 ≡ hex_of "00000000 00000400 00000100" }
-    ensures tail { trial_tail 7 4 ≡ hex_of "0000030f04000100 00000000000102030405060708090a0b0c0d0e0f 00000007 000000000000004000000040 000000000000040000000100" }
+    ensures tail { trial_tail 7 4 ≡
+        hex_of "0000030f 04000100 00000000 00010203 04050607 08090a0b 0c0d0e0f 00000007"
+        ++ hex_of "00000000 00000040 00000040 00000000 00000400 00000100" }
 {}
 
 /// The trial of one row and seed 1 has 18 items and three distinct properties.

@@ -6,7 +6,9 @@ use Rattle.hf_trial.proofs.Parts.{map-pushed}
 use Rattle.hf_trial.proofs.buffer.push_tile.Goals as goal
 
 pub loop-j-preserved : goal.loop-j-preserved
-loop-j-preserved c = map-pushed (λ j. (c.args.seed + c.args.k + j) % 256) c.args.bytes.now.items c.loop-j.bytes.items _ c.loop-j.j _ c.loop-j.invariant c.in_ok-push.ensures.items refl
+loop-j-preserved c =
+    map-pushed (λ j. (c.args.seed + c.args.k + j) % 256) c.args.bytes.now.items c.loop-j.bytes.items _ c.loop-j.j _
+    c.loop-j.invariant c.in_ok-push.ensures.items refl
 
 pub returns : goal.returns
 unfolding tile_bytes
