@@ -1,0 +1,4 @@
+pub mod Bytes
+pub mod Shares
+pub mod Trial
+pub mod WorkedTrials
