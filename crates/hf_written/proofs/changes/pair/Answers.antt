@@ -1,6 +1,5 @@
-use Rattle.std.proofs.Common.{◌≡◌, sym, subst}
+use Rattle.std.proofs.Common.{sym, subst}
 use Rattle.hf_base.specs.declared.limits.TheConstants as limits
-use Rattle.hf_store.specs.Seen.{stated}
 use Rattle.hf_store.specs.Valid.{Valid}
 use Rattle.hf_written.proofs.TestStores.{pair_is, built_is}
 use Rattle.hf_worked.proofs.ValidPairs.{valid_described_pair}
