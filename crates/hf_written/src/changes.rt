@@ -1,4 +1,4 @@
-//! Stores are built, copied and changed, each once with ample memory. The sizes were added up by hand.
+//! Stores are built, copied, changed and redacted, each once with ample memory. The sizes were added up by hand.
 
 ghost use Rattle.std.specs.Prelude.{◌≡◌, [], ◌∷◌, IfOk};
 ghost use Rattle.hf_box.specs.Literals.{four, hex_of};
@@ -11,6 +11,7 @@ ghost use Rattle.hf_worked.specs.WorkedStores.{four_by_four, heic as stated_heic
 use crate::plain::HEIC;
 use hf_base::kinds::{AUXL, CDSC, EXIF, HVC1, IROT, ISPE};
 use hf_base::{FourCc, Ids, NoMemory, OpenFault, Series};
+use hf_deps::{kept, redact};
 use hf_head::Brands;
 use hf_links::Group;
 use hf_pieces::Pieces;
@@ -251,5 +252,28 @@ fn items_are_kept(rt: HostRuntime) -> Result<(), Fail> {
     assert_eq!(rt; store.position(3), Some(1));
     assert_eq!(rt; store.holders(&size().prop), 1);
     assert_eq!(rt; store.meta_size(), 307);
+    Ok(())
+}
+
+#[test]
+fn kept_items_are_listed(rt: HostRuntime) -> Result<(), Fail> {
+    let store = pair(rt.alloc())?;
+    let all = kept(rt.alloc(), &store, false)?;
+    let bare = kept(rt.alloc(), &store, true)?;
+    assert_eq!(rt; all.as_slice(), [1, 2].as_slice());
+    assert_eq!(rt; bare.as_slice(), [1].as_slice());
+    Ok(())
+}
+
+#[test]
+fn a_store_is_redacted(rt: HostRuntime) -> Result<(), Fail> {
+    let mut store = pair(rt.alloc())?;
+    redact(rt.alloc(), &mut store, false)?;
+    assert_eq!(rt; store.len(), 2);
+    assert_eq!(rt; store.position(2), Some(1));
+    assert_eq!(rt; store.group_count(), 1);
+    redact(rt.alloc(), &mut store, true)?;
+    assert_eq!(rt; store.len(), 1);
+    assert_eq!(rt; store.group_count(), 1);
     Ok(())
 }
