@@ -1,6 +1,7 @@
 pub mod Answers
 pub mod Due
 pub mod Edits
-pub mod Listed
 pub mod Making
+pub mod Redactions
+pub mod Sources
 pub mod Stops
