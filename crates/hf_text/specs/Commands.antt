@@ -1,62 +1,98 @@
 -- Commands as the code has them, where a file is named by the place of its word.
 use Rattle.std.specs.Prelude.{◌≡◌, ◌<◌, ℕ, List, [], ◌∷◌, ◌++◌, length, get_or, map, Result, Ok, Err, IfOk, IsOk}
+use Rattle.std.specs.List.{All}
 use Rattle.std.specs.Global.{Vec}
 use Rattle.hf_base.specs.declared.fault.NoMemory.{NoMemory as NoRoom}
-use Rattle.hf_text.specs.Words.{Command, Boxes, ListFile, EditFile}
-use Rattle.hf_edit.specs.Edits.{Edit, Remove, Primary, Hide, Show, Drop}
-use Rattle.hf_text.specs.declared.words.EditWord.{EditWord}
-use Rattle.hf_text.specs.declared.words.EditWord.TheVariants as words
-use Rattle.hf_text.specs.declared.words.Command.{Command as CommandWords}
-use Rattle.hf_text.specs.declared.words.Command.TheVariants.{Boxes as BoxesWords, List as ListWords, Edit as EditWords}
+use Rattle.hf_text.specs.Words.{EditWord, Remove, Exif, Xmp, Thumb, Primary, Rotate, Mirror, Crop, Hide, Show, Drop, Command, Boxes, ListFile, CheckFile, Extract, EditFile, Redact, Trial}
+use Rattle.hf_text.specs.declared.edits.EditWord.{EditWord as PlacedEdit}
+use Rattle.hf_text.specs.declared.edits.EditWord.TheVariants as placed
+use Rattle.hf_text.specs.declared.words.Command.{Command as PlacedCommand}
+use Rattle.hf_text.specs.declared.words.Command.TheVariants as places
 use Rattle.hf_text.specs.declared.words.WordsFault.{WordsFault}
 use Rattle.hf_text.specs.declared.words.WordsFault.TheVariants.{Usage, NoMemory}
 
-abbrev pub edit_of : EditWord → Edit
-edit_of (words.Remove id) = Remove id
-edit_of (words.Primary id) = Primary id
-edit_of (words.Hide id) = Hide id
-edit_of (words.Show id) = Show id
-edit_of (words.Drop id kind) = Drop id kind
+-- the word at a place
+abbrev pub word_of : List (List ℕ) → ℕ → List ℕ
+word_of words at = get_or words at []
+
+-- the edit with the words that stand at its places
+abbrev pub edit_of : List (List ℕ) → PlacedEdit → EditWord
+edit_of words (placed.Remove id) = Remove id
+edit_of words (placed.Exif id file) = Exif id (word_of words file)
+edit_of words (placed.Xmp id file) = Xmp id (word_of words file)
+edit_of words (placed.Thumb id file) = Thumb id (word_of words file)
+edit_of words (placed.Primary id) = Primary id
+edit_of words (placed.Rotate id quarters) = Rotate id quarters
+edit_of words (placed.Mirror id axis) = Mirror id axis
+edit_of words (placed.Crop id x y w h) = Crop id x y w h
+edit_of words (placed.Hide id) = Hide id
+edit_of words (placed.Show id) = Show id
+edit_of words (placed.Drop id kind) = Drop id kind
 
 -- the command with the words that stand at its places
-abbrev pub command_of : List (List ℕ) → CommandWords → Command
-command_of words (BoxesWords input) = Boxes (get_or words input [])
-command_of words (ListWords input) = ListFile (get_or words input [])
-command_of words (EditWords input out edits) = EditFile (get_or words input []) (get_or words out []) (map edit_of edits.items)
+abbrev pub command_of : List (List ℕ) → PlacedCommand → Command
+command_of words (places.Boxes input) = Boxes (word_of words input)
+command_of words (places.List input) = ListFile (word_of words input)
+command_of words (places.Check input) = CheckFile (word_of words input)
+command_of words (places.Extract input id out) = Extract (word_of words input) id (word_of words out)
+command_of words (places.Edit input out edits) = EditFile (word_of words input) (word_of words out) (map (edit_of words) edits.items)
+command_of words (places.Redact input out bare) = Redact (word_of words input) (word_of words out) bare
+command_of words (places.Trial seed n out) = Trial seed n (word_of words out)
 
--- a word stands at each of its places
-abbrev pub NamesWords : List (List ℕ) → CommandWords → Type 0
-NamesWords words (BoxesWords input) = input < length words
-NamesWords words (ListWords input) = input < length words
-NamesWords words (EditWords input out edits) = (input < length words) × (out < length words)
+-- a word stands at each place of an edit
+abbrev pub EditNamesWords : List (List ℕ) → PlacedEdit → Type 0
+EditNamesWords words (placed.Exif id file) = file < length words
+EditNamesWords words (placed.Xmp id file) = file < length words
+EditNamesWords words (placed.Thumb id file) = file < length words
+EditNamesWords words _ = Unit {0}
+
+-- a word stands at each place of a command, those of its edits too
+abbrev pub NamesWords : List (List ℕ) → PlacedCommand → Type 0
+NamesWords words (places.Boxes input) = input < length words
+NamesWords words (places.List input) = input < length words
+NamesWords words (places.Check input) = input < length words
+NamesWords words (places.Extract input id out) = (input < length words) × (out < length words)
+NamesWords words (places.Edit input out edits) = (input < length words) × (out < length words) × All (EditNamesWords words) edits.items
+NamesWords words (places.Redact input out bare) = (input < length words) × (out < length words)
+NamesWords words (places.Trial seed n out) = out < length words
 
 -- the command that is read, or its place of usage, or memory was refused where a command reads
-abbrev pub IsRead : List (List ℕ) → Result Command ℕ → Result CommandWords WordsFault → Type 0
+abbrev pub IsRead : List (List ℕ) → Result Command ℕ → Result PlacedCommand WordsFault → Type 0
 IsRead words read (Ok command) = read ≡ Ok (command_of words command)
 IsRead words read (Err (Usage at)) = read ≡ Err at
 IsRead words read (Err NoMemory) = IsOk read
 
--- the command over the one file at this place, or its place of usage
-abbrev pub IsFileRead : (List ℕ → Command) → List (List ℕ) → Result Command ℕ → Result ℕ WordsFault → Type 0
-IsFileRead command words read (Ok at) = read ≡ Ok (command (get_or words at []))
-IsFileRead command words read (Err (Usage at)) = read ≡ Err at
-IsFileRead command words read (Err NoMemory) = ⊥
+-- the same of a command without edits, whose words take no memory
+abbrev pub IsShortRead : List (List ℕ) → Result Command ℕ → Result PlacedCommand ℕ → Type 0
+IsShortRead words read (Ok command) = read ≡ Ok (command_of words command)
+IsShortRead words read (Err at) = read ≡ Err at
 
 -- the same of edits
-abbrev pub AreRead : Result (List Edit) ℕ → Result (Vec EditWord) WordsFault → Type 0
-AreRead read (Ok edits) = read ≡ Ok (map edit_of edits.items)
-AreRead read (Err (Usage at)) = read ≡ Err at
-AreRead read (Err NoMemory) = IsOk read
+abbrev pub AreRead : List (List ℕ) → Result (List EditWord) ℕ → Result (Vec PlacedEdit) WordsFault → Type 0
+AreRead words read (Ok edits) = read ≡ Ok (map (edit_of words) edits.items)
+AreRead words read (Err (Usage at)) = read ≡ Err at
+AreRead words read (Err NoMemory) = IsOk read
+
+-- these edits, with words at their places
+pub record Holds (words : List (List ℕ)) (held : Vec PlacedEdit) (edits : List EditWord) : Type 0 where
+  pub same : map (edit_of words) held.items ≡ edits
+  pub named : All (EditNamesWords words) held.items
 
 -- these edits, or memory was refused
-abbrev pub HasEdits : Result (Vec EditWord) NoRoom → List Edit → Type 0
-HasEdits result edits = IfOk result (λ held. map edit_of held.items ≡ edits)
+abbrev pub HasEdits : List (List ℕ) → Result (Vec PlacedEdit) NoRoom → List EditWord → Type 0
+HasEdits words result edits = IfOk result (λ held. Holds words held edits)
 
 -- whichever were held, one more is
-abbrev pub IsPushed : Result (Vec EditWord) NoRoom → EditWord → Result (Vec EditWord) NoRoom → Type 0
-IsPushed old edit new = (edits : List Edit) → HasEdits old edits → HasEdits new (edits ++ edit_of edit ∷ [])
+abbrev pub IsPushed : Result (Vec PlacedEdit) NoRoom → PlacedEdit → Result (Vec PlacedEdit) NoRoom → Type 0
+IsPushed old edit new =
+    (words : List (List ℕ)) (edits : List EditWord) → HasEdits words old edits → EditNamesWords words edit → HasEdits words new (edits ++ edit_of words edit ∷ [])
 
 -- the edit, or the place of usage
-abbrev pub IsEditRead : Result Edit ℕ → Result EditWord ℕ → Type 0
-IsEditRead read (Ok edit) = read ≡ Ok (edit_of edit)
-IsEditRead read (Err at) = read ≡ Err at
+abbrev pub IsEditRead : List (List ℕ) → Result EditWord ℕ → Result PlacedEdit ℕ → Type 0
+IsEditRead words read (Ok edit) = read ≡ Ok (edit_of words edit)
+IsEditRead words read (Err at) = read ≡ Err at
+
+-- the word at the place that is read
+abbrev pub IsNameRead : List (List ℕ) → Result (List ℕ) ℕ → Result ℕ ℕ → Type 0
+IsNameRead words read (Ok place) = read ≡ Ok (word_of words place)
+IsNameRead words read (Err at) = read ≡ Err at

@@ -5,7 +5,7 @@ use Rattle.hf_base.specs.declared.fault.ReadRefusal.{ReadRefusal}
 use Rattle.hf_base.specs.declared.fault.ReadRefusal.TheVariants.{Short, BadSize, OpenSize, TooManyBoxes, NoFtyp, NotMif1, Movie, NoMeta, Double, ProtectionBox, Xml, Missing, BadRecord, BadVersion, NotPicture, ZeroId, Protected, DoubleItem, NoPrimary, BadWidth, TooLarge, DoubleLocation, DanglingNeed, DoubleAssoc, BadProperty, DoubleGroup, External, BadMethod, ZeroLength, NoIdat, BadIndex, LocCycle, OutOfFile, OutOfIdat, TooScattered, OutOfItem, TooManyBytes, BadDerived, DeriveCycle, TooManyItems, TooManyLinks, MetaTooLong}
 use Rattle.hf_text.specs.Texts.{type_text}
 use Rattle.hf_text.specs.declared.outcome.Outcome.{Outcome}
-use Rattle.hf_text.specs.declared.outcome.Outcome.TheVariants.{Done, Usage, Unfit, Refused, TooLong, ReadFault, WriteFault, NoMemory}
+use Rattle.hf_text.specs.declared.outcome.Outcome.TheVariants.{Done, Usage, Unfit, Refused, NoSuchItem, TooLong, ReadFault, WriteFault, NoMemory}
 use Rattle.hf_store.specs.declared.reason.Reason.{Reason}
 use Rattle.hf_store.specs.declared.reason.Reason.TheVariants.{NoItem, IsPrimary, Needed, NotImage, IsHidden, IsMinor, DonorDerived, NoSize, OutsidePicture, BadTurn, BadAxis, NoProperty, IsEssential, PropsFull, KindsFull, ItemsFull, IdsFull, BodyFull, MetaFull}
 
@@ -90,6 +90,7 @@ line_text Done = []
 line_text (Usage at) = codes "heif: no command at word" ++ number_field at ++ codes "\n"
 line_text (Unfit source why) = codes "heif: source" ++ number_field source ++ codes ": " ++ refusal_text why ++ codes "\n"
 line_text (Refused edit why) = codes "heif: edit" ++ number_field edit ++ codes ": " ++ reason_text why ++ codes "\n"
+line_text (NoSuchItem id) = codes "heif: no item" ++ number_field id ++ codes "\n"
 line_text (TooLong source) = codes "heif: source" ++ number_field source ++ codes " is too long\n"
 line_text ReadFault = codes "heif: reading failed\n"
 line_text WriteFault = codes "heif: writing failed\n"
@@ -100,6 +101,7 @@ status_of Done = 0
 status_of (Usage at) = 2
 status_of (Unfit source why) = 3
 status_of (Refused edit why) = 4
+status_of (NoSuchItem id) = 5
 status_of (TooLong source) = 6
 status_of ReadFault = 7
 status_of WriteFault = 8

@@ -1,11 +1,11 @@
 //! Laws of the definitions. Each is the contract of a function that does nothing.
 
 ghost use Rattle.std.specs.Prelude.{◌≡◌, ◌↔◌, ◌<◌, ◌^◌, ℕ, List, Some, Ok, Err, decimal};
-ghost use Rattle.hf_text.specs.Words.{Command, Reads, IsUsageAt, command_read, id_of};
+ghost use Rattle.hf_text.specs.Words.{Command, Reads, IsUsageAt, command_read, number_of};
 
-/// An id is read from exactly the word that is written for it.
-pub fn ids_are_their_words()
-    ensures { (word : List ℕ) (id : ℕ) → (id_of word ≡ Some id) ↔ ((id < 256 ^ 4) × (word ≡ decimal id)) }
+/// A number is read from exactly the word that is written for it.
+pub fn numbers_are_their_words()
+    ensures { (word : List ℕ) (n : ℕ) → (number_of word ≡ Some n) ↔ ((n < 256 ^ 4) × (word ≡ decimal n)) }
 {}
 
 /// Words are a command exactly where reading them gives it, so they are at most one.

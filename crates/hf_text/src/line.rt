@@ -75,6 +75,15 @@ fn refused_line(alloc: Global, edit: u32, why: &Reason) -> Result<String, NoMemo
     Ok(line)
 }
 
+fn no_item_line(alloc: Global, id: u32) -> Result<String, NoMemory>
+    ensures { IfOk result (λ line. string_bytes line ≡ line_text (Outcome.NoSuchItem id)) }
+{
+    let mut line = String::from_str(alloc, "heif: no item")?;
+    push_number(&mut line, u64::from(id))?;
+    line.push_str("\n")?;
+    Ok(line)
+}
+
 fn too_long_line(alloc: Global, source: u32) -> Result<String, NoMemory>
     ensures { IfOk result (λ line. string_bytes line ≡ line_text (Outcome.TooLong source)) }
 {
@@ -92,6 +101,7 @@ pub fn line_of(alloc: Global, outcome: &Outcome) -> Result<String, NoMemory>
         Outcome::Usage { at } => return usage_line(alloc, *at),
         Outcome::Unfit { source, why } => return unfit_line(alloc, *source, why),
         Outcome::Refused { edit, why } => return refused_line(alloc, *edit, why),
+        Outcome::NoSuchItem { id } => return no_item_line(alloc, *id),
         Outcome::TooLong { source } => return too_long_line(alloc, *source),
         Outcome::Done => "",
         Outcome::ReadFault => "heif: reading failed\n",

@@ -18,6 +18,8 @@ pub enum Outcome {
     Unfit { source: u32, why: ReadRefusal },
     /// The edit with this number, from 1, is refused, and those before it are accepted.
     Refused { edit: u32, why: Reason },
+    /// The input has no item with this id.
+    NoSuchItem { id: u32 },
     /// The file of this source has more than `FILE` bytes.
     TooLong { source: u32 },
     /// A read failed, also for a name that is not there.
@@ -37,6 +39,7 @@ pub fn status(outcome: &Outcome) -> u8
         Outcome::Usage { .. } => 2,
         Outcome::Unfit { .. } => 3,
         Outcome::Refused { .. } => 4,
+        Outcome::NoSuchItem { .. } => 5,
         Outcome::TooLong { .. } => 6,
         Outcome::ReadFault => 7,
         Outcome::WriteFault => 8,
