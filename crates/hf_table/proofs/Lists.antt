@@ -1,12 +1,12 @@
 -- Uses along a list of properties that is gone through from its front.
-use Rattle.std.proofs.Common.{◌≡◌, ℕ, ◌+◌, ◌<◌, ◌≤◌, ◌^◌, List, [], ◌∷◌, ◌++◌, take, drop, get_or, length, sym, ap, ◌∙◌, arith, cond, true, false}
+use Rattle.std.proofs.Common.{Bool, ◌≡◌, ℕ, ◌+◌, ◌<◌, ◌≤◌, ◌^◌, List, [], ◌∷◌, ◌++◌, take, drop, get_or, length, sym, ap, ◌∙◌, arith, cond, true, false}
 use Rattle.std.specs.Prelude.{filter, sum_by}
 use Rattle.std.proofs.lemmas.List.{take_more, take-append-drop, map-append}
 use Rattle.std.proofs.lemmas.List.Elements.{filter-append}
 use Rattle.std.proofs.lemmas.List.Sums.{sum_by-append}
 use Rattle.hf_base.specs.declared.four.FourCc.{FourCc}
 use Rattle.hf_prop.specs.declared.prop.Prop.{Prop}
-use Rattle.hf_table.specs.Held.{props_in, of_kind, is_of}
+use Rattle.hf_table.specs.Held.{props_in, of_kind, is_of, is_optional_of, optional_of}
 use Rattle.hf_table.specs.Table.{same_prop, places_of}
 use Rattle.hf_table.specs.Uses.{Use, holders_in, Gains, Trades, Holds, HasRoom}
 use Rattle.hf_table.proofs.Tables.{same_prop-self}
@@ -78,11 +78,33 @@ module _ {X : Type 0} (g : List X → List Prop) (joins : (xs ys : List X) → g
 pub props-join : (xs ys : List Held) → props_in (xs ++ ys) ≡ props_in xs ++ props_in ys
 props-join xs ys = map-append (λ (h : Held). h.prop) xs ys
 
+-- the properties that pass a test
+abbrev passing : (Held → Bool) → List Held → List Prop
+passing test held = props_in (filter test held)
+
+passing-join : (test : Held → Bool) (xs ys : List Held) → passing test (xs ++ ys) ≡ passing test xs ++ passing test ys
+passing-join test xs ys = ap props_in (filter-append test xs ys) ∙ props-join (filter test xs) (filter test ys)
+
+passing-one : (test : Held → Bool) (h : Held) → test h ≡ true → passing test (h ∷ []) ≡ h.prop ∷ []
+passing-one test h e = ap (λ b. props_in (cond b (h ∷ []) [])) e
+
+passing-none : (test : Held → Bool) (h : Held) → test h ≡ false → passing test (h ∷ []) ≡ []
+passing-none test h e = ap (λ b. props_in (cond b (h ∷ []) [])) e
+
 pub kinds-join : (kind : FourCc) (xs ys : List Held) → of_kind kind (xs ++ ys) ≡ of_kind kind xs ++ of_kind kind ys
-kinds-join kind xs ys = ap props_in (filter-append (is_of kind) xs ys) ∙ props-join (filter (is_of kind) xs) (filter (is_of kind) ys)
+kinds-join kind = passing-join (is_of kind)
 
 pub kind-one : (kind : FourCc) (h : Held) → is_of kind h ≡ true → of_kind kind (h ∷ []) ≡ h.prop ∷ []
-kind-one kind h e = ap (λ b. props_in (cond b (h ∷ []) [])) e
+kind-one kind = passing-one (is_of kind)
 
 pub kind-none : (kind : FourCc) (h : Held) → is_of kind h ≡ false → of_kind kind (h ∷ []) ≡ []
-kind-none kind h e = ap (λ b. props_in (cond b (h ∷ []) [])) e
+kind-none kind = passing-none (is_of kind)
+
+pub optional-join : (kind : FourCc) (xs ys : List Held) → optional_of kind (xs ++ ys) ≡ optional_of kind xs ++ optional_of kind ys
+optional-join kind = passing-join (is_optional_of kind)
+
+pub optional-one : (kind : FourCc) (h : Held) → is_optional_of kind h ≡ true → optional_of kind (h ∷ []) ≡ h.prop ∷ []
+optional-one kind = passing-one (is_optional_of kind)
+
+pub optional-none : (kind : FourCc) (h : Held) → is_optional_of kind h ≡ false → optional_of kind (h ∷ []) ≡ []
+optional-none kind = passing-none (is_optional_of kind)

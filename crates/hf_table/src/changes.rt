@@ -2,7 +2,7 @@
 
 ghost use Rattle.std.specs.Prelude.{◌≡◌, [], OnOk, OnErr};
 ghost use Rattle.std.specs.List.Sorted.{IsStrictlyIncreasing};
-ghost use Rattle.hf_table.specs.Held.{props_in, of_kind, optional_of, is_among, props_of_others};
+ghost use Rattle.hf_table.specs.Held.{props_in, of_kind, is_optional_of, optional_of, is_among, props_of_others};
 ghost use Rattle.hf_table.specs.Uses.{Gains, Trades, Holds, HasRoom};
 
 use crate::{Holder, Uses};
@@ -67,7 +67,7 @@ impl<'a> Uses<'a> {
         ensures { Gains self.new (optional_of kind props.now) self.old }
     {
         for held in props {
-            let is_optional = held.prop.kind == kind && !held.essential;
+            let is_optional = is_optional(held, kind);
             if is_optional {
                 self.take(&held.prop);
             }
@@ -87,6 +87,13 @@ impl<'a> Uses<'a> {
             }
         }
     }
+}
+
+/// Whether a property is of a type, and not essential.
+fn is_optional(held: &Held<'_>, kind: FourCc) -> bool
+    ensures { result ≡ is_optional_of kind held.now }
+{
+    held.prop.kind == kind && !held.essential
 }
 
 /// Whether an id is one of these, which rise.
