@@ -1,4 +1,0 @@
-pub mod DueLaws
-pub mod Dues
-pub mod EditChain
-pub mod SomethingDue

@@ -12,11 +12,13 @@ use Rattle.hf_store.specs.Lists.{IsIn}
 use Rattle.hf_store.specs.Store.{Item, ItemStore, ids_of}
 use Rattle.hf_store.specs.declared.reason.Reason.{Reason}
 use Rattle.hf_text.specs.Listing.{listing_text}
-use Rattle.hf_text.specs.Texts.{check_text, rows_text}
+use Rattle.hf_text.specs.Answers.{check_text}
+use Rattle.hf_text.specs.Texts.{rows_text}
 use Rattle.hf_text.specs.Words.{Command, Boxes, ListFile, CheckFile, Extract, EditFile, Redact, Trial}
 use Rattle.hf_text.specs.declared.outcome.Outcome.{Outcome}
 use Rattle.hf_text.specs.declared.outcome.Outcome.TheVariants.{Done, Usage, Unfit, Refused, NoSuchItem, TooLong, NoMemory}
-use Rattle.hf_app.specs.Edits.{IsOpened, AreAccepted, AreRefused, AreUnfit}
+use Rattle.hf_app.specs.Edits.{AreAccepted, AreRefused, AreUnfit}
+use Rattle.hf_app.specs.Opening.{IsOpened}
 use Rattle.hf_app.specs.Sources.{Sourced, Readable, Missing, Long, Whole, IsReadable, bytes_in, read_of, sourced, sources_of}
 
 pub record Due : Type 0 where

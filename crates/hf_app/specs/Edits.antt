@@ -1,34 +1,25 @@
 -- Edits in order, and what they make of a file.
-use Rattle.std.specs.Prelude.{◌≡◌, ◌⊎◌, ◌+◌, ℕ, List, [], ◌∷◌, take, slice_get, Option, Some, None, Result, Ok, Err}
-use Rattle.std.specs.List.{AllZip}
+use Rattle.std.specs.Prelude.{◌≡◌, ◌⊎◌, ◌+◌, ℕ, List, [], ◌∷◌, map, take, slice_get, Option, Some, None, Result, Ok, Err}
+use Rattle.std.specs.List.{AllZip, zip}
+use Rattle.std.specs.Global.{Vec}
 use Rattle.hf_base.specs.declared.fault.ReadRefusal.{ReadRefusal}
 use Rattle.hf_store.specs.Store.{ItemStore}
 use Rattle.hf_store.specs.declared.reason.Reason.{Reason}
-use Rattle.hf_store.specs.Valid.{Valid}
 use Rattle.hf_edit.specs.Edits.{Edit, Remove, AddExif, AddXmp, Thumb, Primary, Rotate, Mirror, Crop, Hide, Show, Drop, step, why}
+use Rattle.hf_edit.specs.Seen.{edit_of as edit_seen}
+use Rattle.hf_edit.specs.declared.edit.Edit.{Edit as CodeEdit}
 use Rattle.hf_plan.specs.Canon.{Canon}
-use Rattle.hf_plan.specs.Plan.{IsPlan, Planned}
-use Rattle.hf_read.specs.Denotes.{Denotes, DenotesWithin}
+use Rattle.hf_plan.specs.Plan.{Planned}
+use Rattle.hf_read.specs.Denotes.{Denotes}
 use Rattle.hf_read.specs.Reading.{fault_of}
+use Rattle.hf_text.specs.Commands.{edit_of}
 use Rattle.hf_text.specs.Words.{EditWord}
 use Rattle.hf_text.specs.Words as words
+use Rattle.hf_text.specs.declared.edits.EditWord.{EditWord as PlacedEdit}
+use Rattle.hf_app.specs.Opening.{IsOpened, IsPlanned}
 use Rattle.hf_app.specs.Sources.{Sourced}
 use Rattle.hf_app.specs.declared.stopping.Stop.{Stop}
 use Rattle.hf_app.specs.declared.stopping.Stop.TheVariants.{Unfit, Refused, NoMemory}
-
--- ---- a file as a store
-
--- the file denotes the store, and has no fault
-pub record IsOpened (file : List ℕ) (s : ItemStore) : Type 0 where
-  pub denoted : Denotes file s
-  pub sound : fault_of file ≡ None
-
--- the store that the file of this source denotes, or its fault
-abbrev pub Opens : ℕ → List ℕ → Result ItemStore Stop → Type 0
-Opens source file (Ok store) = DenotesWithin file store × (fault_of file ≡ None)
-Opens source file (Err (Unfit n fault)) = (n ≡ source) × (fault_of file ≡ Some fault)
-Opens source file (Err (Refused n reason)) = ⊥
-Opens source file (Err NoMemory) = Unit {0}
 
 -- ---- edits as they are meant
 
@@ -101,6 +92,17 @@ pub record IsEdited (file : List ℕ) (edits : List Sourced) (bytes : List ℕ) 
 
 -- ---- what the calls answer
 
+-- edits as the code has them, each with the bytes of its file
+abbrev pub with_files : List (List ℕ) → List PlacedEdit → List (Vec ℕ) → List Sourced
+with_files words edits files = zip (map (edit_of words) edits) (map (λ (f : Vec ℕ). f.items) files)
+
+-- what an edit with this number means, or why it has no meaning
+abbrev pub Means : ℕ → EditWord → List ℕ → Result CodeEdit Stop → Type 0
+Means n word bytes (Ok e) = IsMeant word bytes (edit_seen e)
+Means n word bytes (Err (Unfit m fault)) = (m ≡ n) × IsUnfit word bytes fault
+Means n word bytes (Err (Refused m reason)) = ⊥
+Means n word bytes (Err NoMemory) = Unit {0}
+
 -- one edit with this number was made, or why it was not
 abbrev pub Makes : ℕ → ItemStore → EditWord → List ℕ → Result (Unit {0}) Stop → ItemStore → Type 0
 Makes n old word bytes (Ok done) new = (e : Edit) × IsMeant word bytes e × (why old e ≡ None) × (new ≡ step old e)
@@ -114,11 +116,6 @@ Steps old edits (Ok done) new = AreAccepted old edits new
 Steps old edits (Err (Unfit n fault)) new = AreUnfit old edits n fault
 Steps old edits (Err (Refused n reason)) new = AreRefused old edits n reason
 Steps old edits (Err NoMemory) new = Unit {0}
-
--- a store, and the plan of its canonical file
-pub record IsPlanned (s : ItemStore) (plan : Planned) : Type 0 where
-  pub valid : Valid s
-  pub planned : IsPlan s plan
 
 -- why the edits make nothing of a file
 abbrev pub Stops : List ℕ → List Sourced → Stop → Type 0

@@ -1,16 +1,14 @@
 -- What a redaction makes of a file.
-use Rattle.std.specs.Prelude.{◌≡◌, ℕ, Bool, List, Some, Result, Ok, Err}
+use Rattle.std.specs.Prelude.{◌≡◌, ℕ, Bool, List, Result}
 use Rattle.hf_deps.specs.Kept.{Kept}
 use Rattle.hf_deps.specs.Redacted.{redacted}
 use Rattle.hf_edit.specs.Edits.{Edit, Remove, AddExif, AddXmp}
 use Rattle.hf_plan.specs.Canon.{Canon}
 use Rattle.hf_plan.specs.Plan.{Planned}
 use Rattle.hf_read.specs.Denotes.{Denotes}
-use Rattle.hf_read.specs.Reading.{fault_of}
 use Rattle.hf_store.specs.Store.{ItemStore}
-use Rattle.hf_app.specs.Edits.{IsOpened, IsPlanned}
+use Rattle.hf_app.specs.Opening.{IsOpened, IsPlanned, MakesOf}
 use Rattle.hf_app.specs.declared.stopping.Stop.{Stop}
-use Rattle.hf_app.specs.declared.stopping.Stop.TheVariants.{Unfit, Refused, NoMemory}
 
 -- the file denotes a store, these bytes are the canonical file of that store redacted, and they denote it
 pub record IsRedacted (file : List ℕ) (bare : Bool) (bytes : List ℕ) : Type 0 where
@@ -26,9 +24,6 @@ IsForgotten s bare (AddXmp id text) = Unit {0}
 IsForgotten s bare (Remove id) = Kept s bare id → ⊥
 IsForgotten s bare _ = ⊥
 
--- the store that a redaction leaves of a file, with its plan, or the fault of the file
+-- the store that a redaction leaves of a file, with its plan
 abbrev pub Redacts : List ℕ → Bool → Result (ItemStore × Planned) Stop → Type 0
-Redacts file bare (Ok made) = IsPlanned made.0 made.1 × ((s : ItemStore) × IsOpened file s × (made.0 ≡ redacted bare s))
-Redacts file bare (Err (Unfit n fault)) = (n ≡ 0) × (fault_of file ≡ Some fault)
-Redacts file bare (Err (Refused n reason)) = ⊥
-Redacts file bare (Err NoMemory) = Unit {0}
+Redacts file bare result = MakesOf file (λ s made. IsPlanned made.0 made.1 × (made.0 ≡ redacted bare s)) result

@@ -45,15 +45,19 @@ bytes_of (Some file) = file
 abbrev pub bytes_in : Option Files → List ℕ → List ℕ
 bytes_in files name = bytes_of (file_in files name)
 
--- an edit, with the bytes of the file that it reads; none where it reads none
+-- the bytes of the file that an edit reads; none where it reads none
+abbrev pub content_of : Option Files → EditWord → List ℕ
+content_of files (Exif id file) = bytes_in files file
+content_of files (Xmp id file) = bytes_in files file
+content_of files (Thumb id file) = bytes_in files file
+content_of files _ = []
+
+-- an edit, with these bytes
 abbrev pub Sourced : Type 0
 Sourced = EditWord × List ℕ
 
 abbrev pub sourced : Option Files → EditWord → Sourced
-sourced files (Exif id file) = (Exif id file, bytes_in files file)
-sourced files (Xmp id file) = (Xmp id file, bytes_in files file)
-sourced files (Thumb id file) = (Thumb id file, bytes_in files file)
-sourced files w = (w, [])
+sourced files w = (w, content_of files w)
 
 -- whether files are read whole, from the first one on
 pub data Readable : Type 0 where
