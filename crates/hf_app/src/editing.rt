@@ -74,8 +74,12 @@ fn apply_all<'a>(
     requires within { All (λ file. length file.items ≤ FILE) files.now }
     ensures { (words : List (List ℕ)) → Steps store.old (with_files words edits.now files.now) result store.new }
 {
-    for i in 0..edits.len() {
-        apply(alloc, store, i as u32 + 1, &edits[i], &files[i])?;
+    let mut number = 1;
+    let mut place = 0;
+    for edit in edits {
+        apply(alloc, store, number, edit, &files[place])?;
+        number += 1;
+        place += 1;
     }
     Ok(())
 }
