@@ -1,4 +1,8 @@
-pub mod DueLaws
+pub mod Checking
 pub mod Dues
 pub mod EditChain
-pub mod SomethingDue
+pub mod Faults
+pub mod Pieces
+pub mod Reading
+pub mod Redacted
+pub mod SourceLaws

@@ -1,12 +1,13 @@
 -- What each answer of a run claims.
-use Rattle.std.specs.Prelude.{◌≡◌, ◌⊎◌, ℕ, List, Option, Some, None, Result, Ok, Err, IfSome, false}
-use Rattle.hf_desk.specs.Outside.{Outside, Files, file_of}
-use Rattle.hf_desk.specs.Calls.{IfTold, Rose, Said, SaidFront, LacksFile}
+use Rattle.std.specs.Prelude.{◌≡◌, ◌⊎◌, ℕ, List, [], ◌∷◌, Option, Some, None, Result, Ok, Err, IfSome, true, false}
+use Rattle.hf_desk.specs.Outside.{Outside, Files}
+use Rattle.hf_desk.specs.Calls.{Rose, Said, SaidFront, LacksFile}
 use Rattle.hf_desk.specs.Making.{IsMade, IsUnmade, IsMadeInPart}
 use Rattle.hf_text.specs.declared.outcome.Outcome.{Outcome}
 use Rattle.hf_text.specs.declared.outcome.Outcome.TheVariants.{Done, ReadFault, WriteFault, NoMemory}
 use Rattle.hf_text.specs.Words.{Command}
-use Rattle.hf_app.specs.Due.{Due, IsDue, IsDueOf, IsDefined, input_of, out_of}
+use Rattle.hf_app.specs.Due.{Due, IsDue, IsDefined, out_of}
+use Rattle.hf_app.specs.Sources.{Source, sources_of}
 
 -- the file that is due was made, or nothing was
 abbrev pub MadeDue : Option (List ℕ × List ℕ) → Outside → Outside → Type 0
@@ -52,19 +53,22 @@ pub record Stays (old new : Outside) : Type 0 where
   pub files : new.files ≡ old.files
   pub steady : new.steady ≡ old.steady
 
--- where the files are told and have this one, P holds of its bytes
-abbrev pub ForFile : Outside → List ℕ → (List ℕ → Type 0) → Type 0
-ForFile old name P = (files : Files) → old.files ≡ Some files → (file : List ℕ) → file_of files name ≡ Some file → P file
-
 -- the answers that say something of the input, which the others leave open: a read failed, or memory was refused
 abbrev pub IfTells : Outcome → Type 0 → Type 0
 IfTells ReadFault P = Unit {0}
 IfTells NoMemory P = Unit {0}
 IfTells outcome P = P
 
--- with such an answer the input is there, where the files are told, and the answer is due of it
+-- where the files that are read are told, or none is read, P holds
+abbrev pub WhereTold : Option Files → List Source → Type 0 → Type 0
+WhereTold None (source ∷ sources) P = Unit {0}
+WhereTold None [] P = P
+WhereTold (Some files) sources P = P
+
+-- with such an answer the answer is due, so no file is missing before one is too long
 abbrev pub Ends : Command → Outcome → Outside → Outside → Type 0
-Ends command outcome old new = IfTells outcome (IfTold old (input_of command) (λ file. Answers (IsDueOf command file) outcome old new))
+Ends command outcome old new =
+    IfTells outcome (WhereTold old.files (sources_of command) (Answers (IsDue (Ok command) old.files) outcome old new))
 
 -- where something is due, P holds of being that
 abbrev pub ForDue : Result Command ℕ → Outside → ((Due → Type 0) → Type 0) → Type 0
@@ -74,3 +78,13 @@ ForDue read old P = IsDefined read old.files → P (IsDue read old.files)
 abbrev pub OutIsFree : Result Command ℕ → Outside → Type 0
 OutIsFree (Err at) old = Unit {0}
 OutIsFree (Ok command) old = IfSome (out_of command) (λ out. LacksFile old out)
+
+-- neither a read nor a write failed
+abbrev pub NoFault : Outcome → Type 0
+NoFault ReadFault = ⊥
+NoFault WriteFault = ⊥
+NoFault _ = Unit {0}
+
+-- so it is over a steady desk where something is due and the name that is made is free
+abbrev pub IsSteady : Command → Outcome → Outside → Type 0
+IsSteady command outcome old = old.steady ≡ true → OutIsFree (Ok command) old → IsDefined (Ok command) old.files → NoFault outcome

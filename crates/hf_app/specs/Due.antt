@@ -1,19 +1,25 @@
 -- What an undisturbed run answers, makes and says.
-use Rattle.std.specs.Prelude.{◌≡◌, ◌⊎◌, ◌<◌, ◌≤◌, ℕ, List, [], length, Option, Some, None, IsSome, Result, Ok, Err}
+use Rattle.std.specs.Prelude.{◌≡◌, ◌⊎◌, ℕ, Bool, true, false, List, [], map, Option, Some, None, Result, Ok, Err}
 use Rattle.hf_base.specs.declared.fault.ReadRefusal.{ReadRefusal}
-use Rattle.hf_base.specs.declared.limits.TheConstants.{FILE}
 use Rattle.hf_box.specs.declared.view.BoxRow.{BoxRow}
 use Rattle.hf_box.specs.Walk.{walk_at}
-use Rattle.hf_desk.specs.Outside.{Files, file_of}
-use Rattle.hf_edit.specs.Edits.{Edit}
-use Rattle.hf_store.specs.declared.reason.Reason.{Reason}
-use Rattle.hf_text.specs.declared.outcome.Outcome.{Outcome}
-use Rattle.hf_text.specs.declared.outcome.Outcome.TheVariants.{Done, Usage, Unfit, Refused, TooLong}
+use Rattle.hf_deps.specs.Redacted.{redacted}
+use Rattle.hf_desk.specs.Outside.{Files}
+use Rattle.hf_plan.specs.Canon.{Canon}
+use Rattle.hf_read.specs.Denotes.{Denotes}
 use Rattle.hf_read.specs.Reading.{fault_of}
-use Rattle.hf_app.specs.Edits.{IsEdited, IsRefused}
-use Rattle.hf_app.specs.Listed.{IsListed}
+use Rattle.hf_store.specs.Lists.{IsIn}
+use Rattle.hf_store.specs.Store.{Item, ItemStore, ids_of}
+use Rattle.hf_store.specs.declared.reason.Reason.{Reason}
+use Rattle.hf_text.specs.Listing.{listing_text}
+use Rattle.hf_text.specs.Answers.{check_text}
 use Rattle.hf_text.specs.Texts.{rows_text}
-use Rattle.hf_text.specs.Words.{Command, Boxes, ListFile, EditFile}
+use Rattle.hf_text.specs.Words.{Command, Boxes, ListFile, CheckFile, Extract, EditFile, Redact, Trial}
+use Rattle.hf_text.specs.declared.outcome.Outcome.{Outcome}
+use Rattle.hf_text.specs.declared.outcome.Outcome.TheVariants.{Done, Usage, Unfit, Refused, NoSuchItem, TooLong, NoMemory}
+use Rattle.hf_app.specs.Edits.{AreAccepted, AreRefused, AreUnfit}
+use Rattle.hf_app.specs.Opening.{IsOpened}
+use Rattle.hf_app.specs.Sources.{Sourced, Readable, Missing, Long, Whole, IsReadable, bytes_in, read_of, sourced, sources_of}
 
 pub record Due : Type 0 where
   pub outcome : Outcome
@@ -25,55 +31,94 @@ pub record Due : Type 0 where
 abbrev pub answered : Outcome → Due
 answered outcome = record { outcome = outcome; makes = None; says = [] }
 
+-- a text is said
+abbrev pub said : List ℕ → Due
+said text = record { outcome = Done; makes = None; says = text }
+
+-- a file is made
+abbrev pub made : List ℕ → List ℕ → Due
+made out bytes = record { outcome = Done; makes = Some (out, bytes); says = [] }
+
+-- ---- what is due of the bytes of an input
+
 -- the rows of the walk are said, or its fault is answered
 abbrev pub due_of_rows : Result (List BoxRow) ReadRefusal → Due
-due_of_rows (Ok rows) = record { outcome = Done; makes = None; says = rows_text rows }
+due_of_rows (Ok rows) = said (rows_text rows)
 due_of_rows (Err why) = answered (Unfit 0 why)
 
--- what is due of a file that is listed: its fault, or its listing is said
-abbrev pub IsDueOfList : List ℕ → Due → Type 0
-IsDueOfList file d =
+-- its fault is answered, or what is due of the store that it denotes
+abbrev pub IsDueOfFile : (ItemStore → Due → Type 0) → List ℕ → Due → Type 0
+IsDueOfFile Is file d =
     ((fault : ReadRefusal) × (fault_of file ≡ Some fault) × (d ≡ answered (Unfit 0 fault)))
-    ⊎ ((text : List ℕ) × IsListed file text × (d ≡ record { outcome = Done; makes = None; says = text }))
+    ⊎ ((s : ItemStore) × IsOpened file s × Is s d)
 
--- what is due of a file that is edited: its fault, the first refused edit, or the canonical file after all edits
-abbrev pub IsDueOfEdits : List ℕ → List ℕ → List Edit → Due → Type 0
-IsDueOfEdits file out edits d =
-    ((fault : ReadRefusal) × (fault_of file ≡ Some fault) × (d ≡ answered (Unfit 0 fault)))
-    ⊎ ((n : ℕ) × (reason : Reason) × IsRefused file edits n reason × (d ≡ answered (Refused n reason)))
-    ⊎ ((bytes : List ℕ) × IsEdited file edits bytes × (d ≡ record { outcome = Done; makes = Some (out, bytes); says = [] }))
+-- ---- what is due of the store that an input denotes
 
--- what is due where the input of a command is this file, of at most FILE bytes
-abbrev pub IsDueOfFile : Command → List ℕ → Due → Type 0
-IsDueOfFile (Boxes input) file d = d ≡ due_of_rows (walk_at file)
-IsDueOfFile (ListFile input) file d = IsDueOfList file d
-IsDueOfFile (EditFile input out edits) file d = IsDueOfEdits file out edits d
+-- its listing is said
+abbrev pub IsDueOfList : ItemStore → Due → Type 0
+IsDueOfList s d = d ≡ said (listing_text s)
 
-abbrev pub IsDueOf : Command → List ℕ → Due → Type 0
-IsDueOf command file d =
-    ((FILE < length file) × (d ≡ answered (TooLong 0)))
-    ⊎ ((length file ≤ FILE) × IsDueOfFile command file d)
+-- whether these bytes are its canonical file is said
+abbrev pub IsDueOfCheck : List ℕ → ItemStore → Due → Type 0
+IsDueOfCheck file s d = (Canon s file × (d ≡ said (check_text true))) ⊎ ((Canon s file → ⊥) × (d ≡ said (check_text false)))
 
--- the name of the file that a command reads
-abbrev pub input_of : Command → List ℕ
-input_of (Boxes input) = input
-input_of (ListFile input) = input
-input_of (EditFile input out edits) = input
+-- a file of the bytes of the item with an id is made, or no item has it
+abbrev pub IsDueOfExtract : ℕ → List ℕ → ItemStore → Due → Type 0
+IsDueOfExtract id out s d =
+    ((IsIn id (ids_of s.items) → ⊥) × (d ≡ answered (NoSuchItem id)))
+    ⊎ ((i : Item) × IsIn i s.items × (i.id ≡ id) × (d ≡ made out i.bytes))
+
+-- the canonical file of a store is made, which denotes it
+abbrev pub IsDueOfCanon : List ℕ → ItemStore → Due → Type 0
+IsDueOfCanon out s d = (bytes : List ℕ) × Canon s bytes × Denotes bytes s × (d ≡ made out bytes)
+
+-- the canonical file of what is left after a redaction is made
+abbrev pub IsDueOfRedact : Bool → List ℕ → ItemStore → Due → Type 0
+IsDueOfRedact bare out s d = IsDueOfCanon out (redacted bare s) d
+
+-- the canonical file after all edits is made, or the first edit is told whose file has a fault or that has a reason against
+-- it; where both hold of one edit, its file is told
+abbrev pub IsDueOfEdits : List Sourced → List ℕ → ItemStore → Due → Type 0
+IsDueOfEdits edits out s d =
+    ((n : ℕ) × (fault : ReadRefusal) × AreUnfit s edits n fault × (d ≡ answered (Unfit n fault)))
+    ⊎ ((n : ℕ) × (reason : Reason) × AreRefused s edits n reason × (d ≡ answered (Refused n reason)))
+    ⊎ ((after : ItemStore) × AreAccepted s edits after × IsDueOfCanon out after d)
+
+-- ---- what is due of a command
+
+-- where the files that it reads are read whole
+abbrev pub IsDueOf : Command → Option Files → Due → Type 0
+IsDueOf (Boxes input) files d = d ≡ due_of_rows (walk_at (bytes_in files input))
+IsDueOf (ListFile input) files d = IsDueOfFile IsDueOfList (bytes_in files input) d
+IsDueOf (CheckFile input) files d = IsDueOfFile (IsDueOfCheck (bytes_in files input)) (bytes_in files input) d
+IsDueOf (Extract input id out) files d = IsDueOfFile (IsDueOfExtract id out) (bytes_in files input) d
+IsDueOf (EditFile input out edits) files d = IsDueOfFile (IsDueOfEdits (map (sourced files) edits) out) (bytes_in files input) d
+IsDueOf (Redact input out bare) files d = IsDueOfFile (IsDueOfRedact bare out) (bytes_in files input) d
+-- not made yet
+IsDueOf (Trial seed n out) files d = d ≡ answered NoMemory
+
+-- by whether they are
+abbrev pub IsDueOfRead : Command → Option Files → Readable → Due → Type 0
+IsDueOfRead command files Missing d = ⊥
+IsDueOfRead command files (Long n) d = d ≡ answered (TooLong n)
+IsDueOfRead command files Whole d = IsDueOf command files d
 
 -- the name of the file that a command makes
 abbrev pub out_of : Command → Option (List ℕ)
 out_of (Boxes input) = None
 out_of (ListFile input) = None
+out_of (CheckFile input) = None
+out_of (Extract input id out) = Some out
 out_of (EditFile input out edits) = Some out
+out_of (Redact input out bare) = Some out
+out_of (Trial seed n out) = Some out
 
--- something is due: the words are no command, or the files are told and have the one that the command reads
+-- something is due: the words are no command, or no file that it reads is missing before one is too long
 abbrev pub IsDefined : Result Command ℕ → Option Files → Type 0
 IsDefined (Err at) files = Unit {0}
-IsDefined (Ok command) None = ⊥
-IsDefined (Ok command) (Some files) = IsSome (file_of files (input_of command))
+IsDefined (Ok command) files = IsReadable (read_of files (sources_of command))
 
 -- and this is it
 abbrev pub IsDue : Result Command ℕ → Option Files → Due → Type 0
 IsDue (Err at) files d = d ≡ answered (Usage at)
-IsDue (Ok command) None d = ⊥
-IsDue (Ok command) (Some files) d = (file : List ℕ) × (file_of files (input_of command) ≡ Some file) × IsDueOf command file d
+IsDue (Ok command) files d = IsDueOfRead command files (read_of files (sources_of command)) d

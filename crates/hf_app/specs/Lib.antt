@@ -1,6 +1,9 @@
 pub mod Answers
 pub mod Due
 pub mod Edits
-pub mod Listed
 pub mod Making
+pub mod Opening
+pub mod Reads
+pub mod Redactions
+pub mod Sources
 pub mod Stops

@@ -1,9 +1,8 @@
 //! `boxes IN`: the boxes of a file are said.
 
-ghost use Rattle.std.specs.Prelude.{◌≡◌, ℕ, true, false};
+ghost use Rattle.std.specs.Prelude.{◌≡◌, ℕ, false};
 ghost use Rattle.hf_text.specs.Words.{Boxes};
-ghost use Rattle.hf_app.specs.Due.{IsDueOf};
-ghost use Rattle.hf_app.specs.Answers.{Answers, Ends, ForFile, IsQuiet, HasCause, IsDueOrNoMemory, Stays};
+ghost use Rattle.hf_app.specs.Answers.{Ends, IsQuiet, HasCause, IsSteady, Stays};
 
 use crate::input::read_input;
 use crate::stopping::stopped;
@@ -21,10 +20,7 @@ pub fn say_boxes<D: Desk>(alloc: Global, name: &str, desk: &mut D) -> Outcome
     ensures quiet { IsQuiet result (D.outside desk.old) (D.outside desk.new) }
     ensures no_usage { (at : ℕ) → result ≡ Outcome.Usage at → ⊥ }
     ensures ends { Ends (Boxes name.now) result (D.outside desk.old) (D.outside desk.new) }
-    ensures due { ForFile (D.outside desk.old) name.now
-        (λ file. Answers (IsDueOf (Boxes name.now) file) result (D.outside desk.old) (D.outside desk.new)) }
-    ensures steady { (D.outside desk.old).steady ≡ true
-        → ForFile (D.outside desk.old) name.now (λ file. IsDueOrNoMemory (IsDueOf (Boxes name.now) file) result) }
+    ensures steady { IsSteady (Boxes name.now) result (D.outside desk.old) }
 {
     let file = match read_input(alloc, name, desk) {
         Ok(file) => file,

@@ -2,18 +2,26 @@
 #![tactic(auto)]
 
 mod boxes;
+mod check;
 mod edit;
 mod editing;
+mod extract;
 mod input;
 pub mod laws;
 mod list;
 mod making;
+mod opening;
+mod redacting;
+mod sources;
 mod stopping;
 mod top;
+mod words;
 
-pub use editing::{Stop, edited};
+pub use editing::edited;
 pub use hf_text::{
-    Command, EditWord, Outcome, WordsFault, line_of, read_words, say_list, say_rows, status,
+    Command, EditWord, Outcome, WordsFault, line_of, read_words, say_check, say_list, say_rows,
+    status,
 };
 pub use making::make_canonical;
+pub use stopping::Stop;
 pub use top::run;

@@ -1,10 +1,10 @@
-use Rattle.std.proofs.Common.{◌≡◌, ◌+◌, map, drop}
-use Rattle.hf_text.specs.Commands.{edit_of}
-use Rattle.hf_app.specs.Edits.{stepped}
+use Rattle.std.proofs.Common.{◌≡◌, ◌+◌, ℕ, List, take}
+use Rattle.hf_app.specs.Edits.{AreAccepted, with_files}
 use Rattle.hf_app.proofs.editing.apply_all.Given as goal
 
 abbrev pub invariant-loop-edit : goal.invariant-loop-edit
 invariant-loop-edit l = record {
   number : l.number ≡ l.edit-index + 1;
-  rest : stepped (l.edit-index + 1) l.store (map edit_of (drop l.edit-index l.edits)) ≡ stepped 1 l.fn.store (map edit_of l.edits);
+  place : l.place ≡ l.edit-index;
+  accepted : (words : List (List ℕ)) → AreAccepted l.fn.store (take l.edit-index (with_files words l.edits l.files)) l.store;
 }

@@ -1,5 +1,0 @@
-use Rattle.hf_app.proofs.DueLaws.{one_due}
-use Rattle.hf_app.proofs.laws.one_thing_is_due.Goals as goal
-
-pub returns : goal.returns
-returns c = one_due

@@ -1,5 +1,0 @@
-use Rattle.hf_app.proofs.SomethingDue.{something_due}
-use Rattle.hf_app.proofs.laws.something_is_due.Goals as goal
-
-pub returns : goal.returns
-returns c = something_due
