@@ -1,6 +1,6 @@
 -- What is told of edits at the limits of counts.
 use Rattle.std.proofs.Common.{◌≡◌, ℕ, zero, suc, ◌<◌, ◌≤◌, Bool, true, false, List, [], ◌∷◌, ◌++◌, length, length-append, map, refl, sym, ap, ◌+◌, ◌∙◌, ◌^◌, ◌-◌, Option, Some, None, arith}
-use Rattle.std.specs.Prelude.{◌==◌, ◌&&◌, fold, nat_lt, replicate}
+use Rattle.std.specs.Prelude.{◌==◌, ◌&&◌, nat_lt, replicate}
 use Rattle.std.specs.List.{flat_map, list_any, range_with_len}
 use Rattle.std.proofs.lemmas.Bool.{lt-ltb, le-ltb}
 use Rattle.std.proofs.lemmas.List.{append-nil, length-replicate}
@@ -20,7 +20,7 @@ use Rattle.hf_worked.proofs.LargeStores.{named_len}
 use Rattle.hf_worked.proofs.Holders.{kind, holders-table, holders-distinct}
 use Rattle.std.proofs.lemmas.List.FromFn.{length-map-range_with_len}
 use Rattle.hf_edit.specs.Additions.{exif_item, greatest_id, next_id_of, thumbnail_item, xmp_item}
-use Rattle.hf_edit.specs.Edits.{Edit, AddExif, AddXmp, Mirror, Rotate, Thumb, fills_body, fills_ids, fills_items, fills_kinds, fills_meta, is_absent, item_is, is_metadata, is_minor, names_none, pictures_metadata, primary_is, raises_minor, step, takes_derived, when, ◌or_else◌, why}
+use Rattle.hf_edit.specs.Edits.{AddExif, AddXmp, Mirror, Rotate, Thumb, fills_body, fills_ids, fills_items, fills_kinds, fills_meta, is_absent, item_is, is_metadata, is_minor, names_none, pictures_metadata, primary_is, raises_minor, step, takes_derived, when, ◌or_else◌, why}
 use Rattle.hf_edit.specs.Pictures.{mirrored, rotated}
 use Rattle.hf_edit.specs.Worked.{greatest_beside, imir, irot}
 use Rattle.hf_edit.specs.WorkedLimits.{crowd, full_beside, holder_beside, named_picture, named_with, BodyBeforeMeta, BodyFits, BodyIsFull, IdsBeforeBody, ItemsFit, ItemsAreFull, KindsAreFull, KindsBeforeItems, KindsFit, MetaFits, MetaIsFull, PropsBeforeKinds}
