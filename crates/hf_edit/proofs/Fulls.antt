@@ -1,6 +1,6 @@
 -- What is told of edits at the limits of counts.
 use Rattle.std.proofs.Common.{◌≡◌, ℕ, zero, suc, ◌<◌, ◌≤◌, Bool, true, false, List, [], ◌∷◌, ◌++◌, length, length-append, map, refl, sym, ap, ◌+◌, ◌∙◌, ◌^◌, ◌-◌, Option, Some, None, arith}
-use Rattle.std.specs.Prelude.{◌==◌, ◌&&◌, fold, nat_lt, replicate}
+use Rattle.std.specs.Prelude.{◌==◌, ◌&&◌, nat_lt, replicate}
 use Rattle.std.specs.List.{flat_map, list_any, range_with_len}
 use Rattle.std.proofs.lemmas.Bool.{lt-ltb, le-ltb}
 use Rattle.std.proofs.lemmas.List.{append-nil, length-replicate}
@@ -8,21 +8,22 @@ use Rattle.std.proofs.lemmas.Grind.{fold-append}
 use Rattle.hf_store.specs.Changes.{added}
 use Rattle.hf_store.specs.Store.{Item, ItemStore, Prop}
 use Rattle.hf_store.specs.Table.{same_prop, props_of, table_of, with_prop}
-use Rattle.hf_store.specs.Valid.{body_sum}
+use Rattle.hf_store.specs.Valid.{body_sum, meta_len}
 use Rattle.hf_store.specs.declared.reason.Reason.{Reason}
 use Rattle.hf_store.specs.declared.reason.Reason.TheVariants as reasons
 use Rattle.hf_table.specs.Table.{table}
 use Rattle.hf_prop.specs.Views.{turn_by}
-use Rattle.hf_worked.specs.LargeStores.{picture_of}
+use Rattle.hf_worked.specs.LargeStores.{named, picture_of}
 use Rattle.hf_worked.specs.LimitStores.{holder, holders}
 use Rattle.hf_worked.specs.WorkedStores.{one_picture, plain}
+use Rattle.hf_worked.proofs.LargeStores.{named_len}
 use Rattle.hf_worked.proofs.Holders.{kind, holders-table, holders-distinct}
 use Rattle.std.proofs.lemmas.List.FromFn.{length-map-range_with_len}
 use Rattle.hf_edit.specs.Additions.{exif_item, greatest_id, next_id_of, thumbnail_item, xmp_item}
-use Rattle.hf_edit.specs.Edits.{Edit, AddExif, AddXmp, Rotate, Thumb, fills_body, fills_ids, fills_items, fills_kinds, fills_meta, is_absent, item_is, is_metadata, is_minor, names_none, pictures_metadata, primary_is, raises_minor, step, takes_derived, when, ◌or_else◌, why}
-use Rattle.hf_edit.specs.Pictures.{rotated}
-use Rattle.hf_edit.specs.Worked.{greatest_beside}
-use Rattle.hf_edit.specs.WorkedLimits.{crowd, holder_beside, BodyFits, BodyIsFull, IdsBeforeBody, ItemsFit, ItemsAreFull, KindsAreFull, KindsBeforeItems, KindsFit}
+use Rattle.hf_edit.specs.Edits.{AddExif, AddXmp, Mirror, Rotate, Thumb, fills_body, fills_ids, fills_items, fills_kinds, fills_meta, is_absent, item_is, is_metadata, is_minor, names_none, pictures_metadata, primary_is, raises_minor, step, takes_derived, when, ◌or_else◌, why}
+use Rattle.hf_edit.specs.Pictures.{mirrored, rotated}
+use Rattle.hf_edit.specs.Worked.{greatest_beside, imir, irot}
+use Rattle.hf_edit.specs.WorkedLimits.{crowd, full_beside, holder_beside, named_picture, named_with, BodyBeforeMeta, BodyFits, BodyIsFull, IdsBeforeBody, ItemsFit, ItemsAreFull, KindsAreFull, KindsBeforeItems, KindsFit, MetaFits, MetaIsFull, PropsBeforeKinds}
 
 -- a reason that does not hold, and one that does
 passed : (test : Bool) (reason : Reason) (rest answer : Option Reason) → test ≡ false → rest ≡ answer → (when test reason or_else rest) ≡ answer
@@ -234,3 +235,49 @@ body_is_full = (exif_body_full, xmp_body_full, thumb_body_full)
 pub ids_before_body : IdsBeforeBody
 unfolding greatest_beside table_of next_id_of
 ids_before_body bytes = refl
+
+-- ---- properties of an item
+
+pub props_before_kinds : PropsBeforeKinds
+unfolding full_beside rotated
+props_before_kinds count = refl
+
+-- ---- the `meta` box
+
+mirrored_len : (name : List ℕ) (n : ℕ) → length name ≡ n → n < 2 ^ 31 → meta_len (step (named_with (imir "00") name) (Mirror 1 0)) ≡ 142 + n
+unfolding named named_with mirrored
+mirrored_len name n len few = named_len name n len few
+
+turned_len : (name : List ℕ) (n : ℕ) → length name ≡ n → n < 2 ^ 31 → meta_len (step (named_with (irot "03") name) (Rotate 1 1)) ≡ 142 + n
+unfolding named named_with rotated
+turned_len name n len few = named_len name n len few
+
+pub meta_fits : MetaFits
+meta_fits =
+    (λ name few. le-ltb 1073741824 _ (omega (arith, few, mirrored_len name (length name) refl (omega (arith, few)))),
+      λ name few. le-ltb 1073741824 _ (omega (arith, few, turned_len name (length name) refl (omega (arith, few)))))
+
+mirrored_full : (name : List ℕ) → 1073741682 < length name → length name < 2 ^ 31 → why (named_with (imir "00") name) (Mirror 1 0) ≡ Some reasons.MetaFull
+unfolding named_with mirrored table_of
+mirrored_full name many few =
+    let full : fills_meta (named_with (imir "00") name) (Mirror 1 0) ≡ true = lt-ltb 1073741824 _ (omega (arith, many, mirrored_len name (length name) refl few)) in
+    told (fills_meta (named_with (imir "00") name) (Mirror 1 0)) reasons.MetaFull _ full
+
+turned_meta_full : (name : List ℕ) → 1073741682 < length name → length name < 2 ^ 31 → why (named_with (irot "03") name) (Rotate 1 1) ≡ Some reasons.MetaFull
+unfolding named_with rotated table_of
+turned_meta_full name many few =
+    let full : fills_meta (named_with (irot "03") name) (Rotate 1 1) ≡ true = lt-ltb 1073741824 _ (omega (arith, many, turned_len name (length name) refl few)) in
+    told (fills_meta (named_with (irot "03") name) (Rotate 1 1)) reasons.MetaFull _ full
+
+pub meta_is_full : MetaIsFull
+meta_is_full = (mirrored_full, turned_meta_full)
+
+named_body : (name bytes : List ℕ) → body_sum (step (named_picture name bytes) (AddExif 1 [])).items ≡ length bytes + 4
+unfolding named_picture body_sum
+named_body name bytes = omega arith
+
+pub body_before_meta : BodyBeforeMeta
+unfolding named_picture table_of next_id_of
+body_before_meta name bytes many =
+    let full : fills_body (named_picture name bytes) (AddExif 1 []) ≡ true = lt-ltb 1099511627776 _ (omega (arith, many, named_body name bytes)) in
+    told (fills_body (named_picture name bytes) (AddExif 1 [])) reasons.BodyFull _ full

@@ -1,13 +1,13 @@
 -- Worked stores at the limits of counts, and what is told of an edit that would make one more.
 use Rattle.std.specs.Prelude.{ℕ, ◌≡◌, ◌+◌, ◌-◌, ◌^◌, ◌<◌, ◌≤◌, false, List, [], ◌∷◌, length, replicate, Some}
 use Rattle.hf_box.specs.Literals.{hex_of}
-use Rattle.hf_store.specs.Store.{ItemStore}
-use Rattle.hf_store.specs.declared.reason.Reason.TheVariants.{BodyFull, IdsFull, ItemsFull, KindsFull}
+use Rattle.hf_store.specs.Store.{Held, ItemStore}
+use Rattle.hf_store.specs.declared.reason.Reason.TheVariants.{BodyFull, IdsFull, ItemsFull, KindsFull, MetaFull, PropsFull}
 use Rattle.hf_worked.specs.LargeStores.{picture_of}
 use Rattle.hf_worked.specs.LimitStores.{holder, holders}
-use Rattle.hf_worked.specs.WorkedStores.{heic, one_picture, plain}
-use Rattle.hf_edit.specs.Edits.{AddExif, AddXmp, Rotate, Thumb, fills_body, fills_items, fills_kinds, why}
-use Rattle.hf_edit.specs.Worked.{greatest_beside}
+use Rattle.hf_worked.specs.WorkedStores.{four_by_four, heic, one_picture, plain}
+use Rattle.hf_edit.specs.Edits.{AddExif, AddXmp, Mirror, Rotate, Thumb, fills_body, fills_items, fills_kinds, fills_meta, why}
+use Rattle.hf_edit.specs.Worked.{greatest_beside, imir, irot, picture}
 
 -- ---- distinct properties
 
@@ -68,3 +68,38 @@ BodyIsFull =
 -- where no id is left that is told first, whatever bytes come
 abbrev pub IdsBeforeBody : Type 0
 IdsBeforeBody = (bytes : List ℕ) → why greatest_beside (AddExif 1 bytes) ≡ Some IdsFull
+
+-- ---- properties of an item
+
+-- a picture with 255 properties, and an item with so many distinct ones
+unfoldable pub full_beside : ℕ → ItemStore
+full_beside count = record { brands = heic; primary = 1; items = picture (replicate 255 four_by_four) ∷ holder 2 0 count ∷ []; groups = [] }
+
+-- one more property of the picture, whatever the other item has
+abbrev pub PropsBeforeKinds : Type 0
+PropsBeforeKinds = (count : ℕ) → why (full_beside count) (Rotate 1 1) ≡ Some PropsFull
+
+-- ---- the `meta` box
+
+-- an item with a name and one property
+unfoldable pub named_with : Held → List ℕ → ItemStore
+named_with held name = record { brands = heic; primary = 1; items = record (plain 1 "hvc1" []) { name = name; props = held ∷ [] } ∷ []; groups = [] }
+
+-- the property goes, and the box has 142 bytes beside the name
+abbrev pub MetaFits : Type 0
+MetaFits =
+    ((name : List ℕ) → length name ≤ 1073741682 → fills_meta (named_with (imir "00") name) (Mirror 1 0) ≡ false)
+    × ((name : List ℕ) → length name ≤ 1073741682 → fills_meta (named_with (irot "03") name) (Rotate 1 1) ≡ false)
+
+abbrev pub MetaIsFull : Type 0
+MetaIsFull =
+    ((name : List ℕ) → 1073741682 < length name → length name < 2 ^ 31 → why (named_with (imir "00") name) (Mirror 1 0) ≡ Some MetaFull)
+    × ((name : List ℕ) → 1073741682 < length name → length name < 2 ^ 31 → why (named_with (irot "03") name) (Rotate 1 1) ≡ Some MetaFull)
+
+-- a picture with a name and bytes
+unfoldable pub named_picture : List ℕ → List ℕ → ItemStore
+named_picture name bytes = record { brands = heic; primary = 1; items = record (plain 1 "hvc1" bytes) { name = name } ∷ []; groups = [] }
+
+-- too many bytes are told first, however long the name is
+abbrev pub BodyBeforeMeta : Type 0
+BodyBeforeMeta = (name bytes : List ℕ) → 1099511627776 < length bytes + 4 → why (named_picture name bytes) (AddExif 1 []) ≡ Some BodyFull

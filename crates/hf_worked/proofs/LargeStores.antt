@@ -56,7 +56,7 @@ named_others : (name : List ℕ)
 unfolding layout named
 named_others name = refl
 
-named_len : (name : List ℕ) (n : ℕ) → length name ≡ n → n < 2 ^ 31 → meta_len (named name) ≡ 142 + n
+pub named_len : (name : List ℕ) (n : ℕ) → length name ≡ n → n < 2 ^ 31 → meta_len (named name) ≡ 142 + n
 unfolding meta_body_len
 named_len name n len few =
     let body : meta_body_len 8 (named name) ≡ 134 + n = omega (arith, length-meta_front (named name), named_iinf name n len few, named_others name) in
