@@ -1,7 +1,11 @@
-//! Worked listings. Each is the contract of a function that does nothing.
+//! Worked listings, lines and answers. Each is the contract of a function that does nothing.
 
-ghost use Rattle.std.specs.Prelude.{◌≡◌, ◌∷◌, [], codes};
+ghost use Rattle.std.specs.Prelude.{◌≡◌, ◌∷◌, [], true, false, codes};
+ghost use Rattle.hf_store.specs.declared.reason.Reason.TheVariants.{Needed, MetaFull};
+ghost use Rattle.hf_text.specs.Answers.{check_text, trial_text};
+ghost use Rattle.hf_text.specs.Lines.{line_text, status_of};
 ghost use Rattle.hf_text.specs.Listing.{brand_fields, listing_text, string_text};
+ghost use Rattle.hf_text.specs.declared.outcome.Outcome.TheVariants.{NoSuchItem, Refused};
 ghost use Rattle.hf_text.specs.WorkedListings.{linked, linked_lines, picture_and_text, picture_and_text_lines};
 
 /// A string that is empty, and the string that would print as it.
@@ -31,4 +35,20 @@ pub fn brands_are_told_by_fours()
 pub fn stores_are_listed()
     ensures text { listing_text picture_and_text ≡ picture_and_text_lines }
     ensures links { listing_text linked ≡ linked_lines }
+{}
+
+/// Lines of an item that is not there, and of edits that are refused.
+pub fn outcomes_are_told()
+    ensures item { line_text (NoSuchItem 7) ≡ codes "heif: no item 7\n" }
+    ensures needed { line_text (Refused 2 (Needed 49)) ≡ codes "heif: edit 2: Needed 49\n" }
+    ensures full { line_text (Refused 256 MetaFull) ≡ codes "heif: edit 256: MetaFull\n" }
+    ensures status { status_of (NoSuchItem 7) ≡ 5 }
+{}
+
+/// What `check` and `trial` say.
+pub fn answers_are_told()
+    ensures yes { check_text true ≡ codes "canonical\n" }
+    ensures no { check_text false ≡ codes "not canonical\n" }
+    ensures trial { trial_text (record { seed = 2; n = 1; items = 18; bytes = 1217; kept_items = 17; kept_bytes = 1142 })
+        ≡ codes "trial 2 1: 18 items, 1217 bytes; redacted 17 items, 1142 bytes\n" }
 {}
