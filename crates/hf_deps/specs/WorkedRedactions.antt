@@ -1,5 +1,5 @@
 -- A worked store and its redactions: chains of items of which one keeps the next, and what refers to them.
-use Rattle.std.specs.Prelude.{ℕ, true, List, [], ◌∷◌, codes}
+use Rattle.std.specs.Prelude.{ℕ, true, List, [], ◌∷◌, ◌++◌, codes}
 use Rattle.hf_box.specs.Literals.{hex_of}
 use Rattle.hf_store.specs.Store.{Held, Item, Group, ItemStore}
 use Rattle.hf_store.specs.declared.item.RefList.{RefList}
@@ -27,6 +27,10 @@ auxiliary = picture 4 (references "auxl" (2 ∷ []) ∷ [])
 abbrev pub kept_size : Held
 kept_size = optional "ispe" (hex_of "04")
 
+-- groups that the seventh item is in
+abbrev pub with_seventh : List Group
+with_seventh = alternatives 10 (1 ∷ 7 ∷ []) ∷ pair_with_tail 11 (1 ∷ 7 ∷ []) ∷ alternatives 12 (7 ∷ []) ∷ []
+
 -- the seventh is what metadata alone describes and needs; it needs the primary item itself
 unfoldable pub described_chain : ItemStore
 described_chain = chained
@@ -44,7 +48,7 @@ described_chain = chained
     ∷ picture 7 (references "prem" (1 ∷ []) ∷ [])
     ∷ []
     )
-    (alternatives 10 (1 ∷ 7 ∷ []) ∷ pair_with_tail 11 (1 ∷ 7 ∷ []) ∷ alternatives 12 (7 ∷ []) ∷ alternatives 13 (2 ∷ 1 ∷ []) ∷ pair_with_tail 14 (3 ∷ 1 ∷ []) ∷ [])
+    (with_seventh ++ alternatives 13 (2 ∷ 1 ∷ []) ∷ pair_with_tail 14 (3 ∷ 1 ∷ []) ∷ [])
 
 -- what a redaction leaves of the primary item
 abbrev pub bared_first : Item
