@@ -27,7 +27,7 @@ fn a_trial_of_four_rows_is_built(rt: HostRuntime) -> Result<(), Fail> {
     assert!(rt; store.at(63).kind == HVC1);
     assert_eq!(rt; store.at(63).body.len(), 449);
     assert!(rt; store.at(64).kind == GRID);
-    assert_eq!(rt; store.at(64).refs.get(0).to.len(), 64);
+    assert_eq!(rt; store.counts().targets, 65);
     assert!(rt; store.at(65).kind == EXIF);
     assert_eq!(rt; store.body_sum(), 14_652);
     assert_eq!(rt; store.meta_size(), 3_653);
