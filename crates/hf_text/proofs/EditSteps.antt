@@ -66,7 +66,8 @@ module _ (words : List (List ℕ)) (at count : ℕ) (held : Result (Vec PlacedEd
       p.read ∙ ap (edits_before p.edits) (ap (λ (n : ℕ). edits_read n at (drop at words)) none ∙ edits_read-full at (drop at words) (some_left less))
 
   step : at < length words → count ≢ EDITS
-      → edits_read (EDITS - count) at (drop at words) ≡ edits_from (edit_read at (drop at words)) (λ (n : ℕ). edits_read (EDITS - (count + 1)) (at + n) (drop n (drop at words)))
+      → edits_read (EDITS - count) at (drop at words)
+      ≡ edits_from (edit_read at (drop at words)) (λ (n : ℕ). edits_read (EDITS - (count + 1)) (at + n) (drop n (drop at words)))
   step less room =
       let one : EDITS - count ≡ suc (EDITS - (count + 1)) = omega (arith, p.few, room) in
       ap (λ (n : ℕ). edits_read n at (drop at words)) one ∙ edits_read-some (EDITS - (count + 1)) at (drop at words) (some_left less)

@@ -295,8 +295,8 @@ module _ {A : Type 0} (Fits : A → Type 0) (words_of : A → List (List ℕ)) (
     forms_stop (form ∷ others) at p name words are e = first_stops form others at p name words are.0 (forms_stop others at p name words are.1)
         (bytes_eq name form.name) refl e
 
-    named_refused : (all : List (Form A)) (at p : ℕ) (name : List ℕ) (words others : List (List ℕ)) (x : A) (s : Stops Fits words_of (form_read all at name) 0 (name ∷ words) at p)
-        → Fronts (suc s.k) (name ∷ words) others → words_read all at others ≡ Ok x → ⊥
+    named_refused : (all : List (Form A)) (at p : ℕ) (name : List ℕ) (words others : List (List ℕ)) (x : A)
+        (s : Stops Fits words_of (form_read all at name) 0 (name ∷ words) at p) → Fronts (suc s.k) (name ∷ words) others → words_read all at others ≡ Ok x → ⊥
     named_refused all at p name words [] x s f e = absurd (cc)
     named_refused all at p name words (first ∷ others) x s f e =
         let same : first ≡ name = Fronts-first (Fronts-fewer 1 (omega arith) f) in
@@ -313,4 +313,10 @@ module _ {A : Type 0} (Fits : A → Type 0) (words_of : A → List (List ℕ)) (
     }
     words_stop all at p (name ∷ words) are e =
         let s = forms_stop all at p name words are e in
-        record { k = s.k; past = omega arith; place = s.place; starts = s.starts; refused = λ others x f read. named_refused all at p name words others x s f read }
+        record {
+          k = s.k;
+          past = omega arith;
+          place = s.place;
+          starts = s.starts;
+          refused = λ others x f read. named_refused all at p name words others x s f read;
+        }

@@ -85,7 +85,8 @@ HasEdits words result edits = IfOk result (λ held. Holds words held edits)
 -- whichever were held, one more is
 abbrev pub IsPushed : Result (Vec PlacedEdit) NoRoom → PlacedEdit → Result (Vec PlacedEdit) NoRoom → Type 0
 IsPushed old edit new =
-    (words : List (List ℕ)) (edits : List EditWord) → HasEdits words old edits → EditNamesWords words edit → HasEdits words new (edits ++ edit_of words edit ∷ [])
+    (words : List (List ℕ)) (edits : List EditWord) → HasEdits words old edits → EditNamesWords words edit
+    → HasEdits words new (edits ++ edit_of words edit ∷ [])
 
 -- the edit, or the place of usage
 abbrev pub IsEditRead : List (List ℕ) → Result EditWord ℕ → Result PlacedEdit ℕ → Type 0
