@@ -2,25 +2,12 @@
 
 ghost use Rattle.std.specs.Prelude.{◌≡◌, ◌==◌, ◌&&◌, not};
 ghost use Rattle.std.specs.List.{list_any};
-ghost use Rattle.hf_store.specs.Changes.{is_need, needed_by as needed_by_stated, needs as needs_stated};
+ghost use Rattle.hf_links.specs.Kinds.{is_need};
 ghost use Rattle.hf_store.specs.Seen.{item_of};
+ghost use Rattle.hf_deps.specs.Needs.{needed_by as needed_by_stated, needs as needs_stated};
 
-use hf_base::FourCc;
-use hf_base::kinds::DIMG;
+use hf_links::is_need_kind;
 use hf_store::{Item, RefList, Store};
-
-/// The references of a picture to the one that it is predicted from.
-const TBAS: FourCc = FourCc(*b"tbas");
-
-/// The references of a picture to one whose colours it is multiplied with.
-const PREM: FourCc = FourCc(*b"prem");
-
-/// Whether an item cannot be shown without the items that it has references of this type to.
-fn is_need_kind(kind: FourCc) -> bool
-    ensures { result ≡ is_need kind }
-{
-    kind == DIMG || kind == TBAS || kind == PREM
-}
 
 /// Whether an id is one of these.
 fn leads_to(ids: &[u32], id: u32) -> bool

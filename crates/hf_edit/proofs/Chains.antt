@@ -2,12 +2,12 @@
 use Rattle.std.proofs.Common.{◌≡◌, ℕ, ◌<◌, Bool, true, false, not, refl, ap, ◌∙◌, sym, Option, Some, None}
 use Rattle.std.specs.Prelude.{◌==◌, slice_get, option_map}
 use Rattle.hf_base.specs.declared.four.FourCc.{FourCc}
-use Rattle.hf_store.specs.Changes.{needed_by, why_not_removed}
 use Rattle.hf_store.specs.Lists.{IsIn, RisesFrom}
 use Rattle.hf_store.specs.Store.{Item, ItemStore, ids_of}
 use Rattle.hf_store.specs.declared.reason.Reason.{Reason}
 use Rattle.hf_store.specs.declared.reason.Reason.TheVariants.{NoItem, IsPrimary, Needed, NotImage, IsHidden, IsMinor, NoProperty, IsEssential}
 use Rattle.hf_store.proofs.Spots.{id_here, some_is}
+use Rattle.hf_deps.specs.Needs.{needed_by}
 use Rattle.hf_edit.specs.Edits.{Edit, Remove, Primary, Hide, Show, Drop, named, is_absent, item_is, is_metadata, is_hidden, is_minor, has_kind, has_essential, when, ◌or_else◌, why}
 use Rattle.hf_edit.proofs.Named.{is_there, is_nowhere, item_here}
 
@@ -34,10 +34,8 @@ removal false true needer e = absurd cc
 removal false false (Some by) e = absurd cc
 removal false false None e = (refl, refl, refl)
 
-pub not_removed : (s : ItemStore) (id : ℕ) → why s (Remove id) ≡ None → why_not_removed s id ≡ None
-not_removed s id free =
-    let parts = removal (is_absent id s) (s.primary == id) (needed_by id s.items) free in
-    rw (parts.0, parts.1, parts.2) refl
+pub free_to_go : (s : ItemStore) (id : ℕ) → why s (Remove id) ≡ None → ((s.primary == id) ≡ false) × (needed_by id s.items ≡ None)
+free_to_go s id free = (removal (is_absent id s) (s.primary == id) (needed_by id s.items) free).1
 
 -- ---- the item that is named stands at a place
 

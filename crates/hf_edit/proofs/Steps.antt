@@ -10,13 +10,13 @@ use Rattle.hf_store.specs.Sizes.{AreFours, counted_meta}
 use Rattle.hf_store.specs.Store.{Item, ItemStore, ids_of}
 use Rattle.hf_store.specs.Table.{table_of}
 use Rattle.hf_store.specs.Valid.{meta_len, Valid}
-use Rattle.hf_store.proofs.CutValid.{valid_removed}
 use Rattle.hf_store.proofs.Spots.{at_or, within_at}
 use Rattle.std.proofs.lemmas.List.{length-map}
 use Rattle.hf_store.proofs.MetaCounts.{good_fours, valid_fours, meta_is_counted}
 use Rattle.hf_edit.specs.Edits.{Remove, Primary, Hide, Show, Drop, with_item, why}
 use Rattle.hf_edit.specs.Left.{StepsKeepValidity}
-use Rattle.hf_edit.proofs.Chains.{names_one, not_removed}
+use Rattle.hf_deps.proofs.Needers.{valid_unneeded}
+use Rattle.hf_edit.proofs.Chains.{names_one, free_to_go}
 use Rattle.hf_edit.proofs.Named.{is_somewhere, with_item_at}
 use Rattle.hf_edit.proofs.Parts.{IsPart, filter-all, valid_parts}
 
@@ -72,7 +72,7 @@ valid_changed id change part s valid =
 -- ---- the law
 
 pub steps_keep_validity : StepsKeepValidity
-steps_keep_validity s (Remove id) valid free = valid_removed s id valid (not_removed s id free)
+steps_keep_validity s (Remove id) valid free = let parts = free_to_go s id free in valid_unneeded s id valid parts.0 parts.1
 steps_keep_validity s (Primary id) valid free = valid_primary s id valid (is_somewhere s id (names_one s (Primary id) free))
 steps_keep_validity s (Hide id) valid free = valid_changed id (hide true) (hidden_part true) s valid
 steps_keep_validity s (Show id) valid free = valid_changed id (hide false) (hidden_part false) s valid

@@ -7,9 +7,8 @@ use Rattle.hf_store.specs.Changes.{cut, cut_item, cut_refs, hide, is_other, lack
 use Rattle.hf_store.specs.Lists.{IsIn, not_empty}
 use Rattle.hf_store.specs.Store.{Item, ids_of}
 use Rattle.hf_store.specs.declared.item.RefList.{RefList}
-use Rattle.hf_store.specs.Untouched.{ids_without, refs_without}
 use Rattle.hf_edit.specs.Edits.{Edit, Remove, Primary, Hide, Show, Drop}
-use Rattle.hf_edit.specs.Left.{AreLeft, IsLeft, UntouchedItemsStay, NoItemComes, RestStays}
+use Rattle.hf_edit.specs.Left.{ids_without, refs_without, AreLeft, IsLeft, UntouchedItemsStay, NoItemComes, RestStays}
 use Rattle.hf_edit.proofs.Named.{differ}
 
 -- ---- members

@@ -7,7 +7,7 @@ use Rattle.hf_base.specs.declared.limits.TheConstants as limits
 use Rattle.hf_box.specs.Literals.{four}
 use Rattle.hf_box.specs.Walk.{is_kind}
 use Rattle.hf_links.specs.Kinds.{is_minor as is_minor_kind, is_need}
-use Rattle.hf_store.specs.Changes.{hide, holding, lacking, needed_by, removed, with_primary}
+use Rattle.hf_store.specs.Changes.{hide, holding, lacking, removed, with_primary}
 use Rattle.hf_store.specs.Store.{Held, Item, ItemStore, ids_of}
 use Rattle.hf_store.specs.Table.{table_of}
 use Rattle.hf_store.specs.Valid.{body_sum, meta_len}
@@ -15,6 +15,7 @@ use Rattle.hf_store.specs.declared.item.RefList.{RefList}
 use Rattle.hf_store.specs.declared.reason.Reason.{Reason}
 use Rattle.hf_store.specs.declared.reason.Reason.TheVariants as reasons
 use Rattle.hf_table.specs.Held.{is_of}
+use Rattle.hf_deps.specs.Needs.{needed_by}
 use Rattle.hf_edit.specs.Additions.{exif_item, next_id_of, primary_item, thumbnail_item, with_next, xmp_item}
 use Rattle.hf_edit.specs.Pictures.{cropped, is_outside, mirrored, picture_size_of, rotated}
 

@@ -1,13 +1,23 @@
 -- What edits leave as it was.
-use Rattle.std.specs.Prelude.{ℕ, ◌≡◌, ◌⊎◌, ◌+◌, List, [], ◌∷◌, ◌++◌, Option, Some, None}
-use Rattle.hf_store.specs.Lists.{IsIn}
+use Rattle.std.specs.Prelude.{ℕ, ◌≡◌, ◌⊎◌, ◌+◌, ◌==◌, not, List, [], ◌∷◌, ◌++◌, filter, Option, Some, None, if◌then◌else◌}
+use Rattle.hf_store.specs.Lists.{IsIn, not_empty}
 use Rattle.hf_store.specs.Changes.{cut_groups, is_other}
 use Rattle.hf_store.specs.Store.{Item, Group, ItemStore, ids_of}
 use Rattle.hf_store.specs.declared.item.RefList.{RefList}
-use Rattle.hf_store.specs.Untouched.{ids_without, refs_without}
 use Rattle.hf_store.specs.Valid.{Valid}
 use Rattle.hf_edit.specs.Additions.{exif_item, greatest_id, primary_item, thumbnail_item, xmp_item}
 use Rattle.hf_edit.specs.Edits.{Edit, Remove, AddExif, AddXmp, Thumb, Primary, Rotate, Mirror, Crop, Hide, Show, Drop, step, why}
+
+-- all ids but one, in order
+abbrev pub ids_without : ℕ → List ℕ → List ℕ
+ids_without id ids = filter (λ x. not (x == id)) ids
+
+-- what references become where the item with an id goes: that id goes from each list, and a list that is left without any goes
+abbrev pub refs_without : ℕ → List RefList → List RefList
+refs_without id [] = []
+refs_without id (r ∷ rs) =
+    let left = ids_without id r.to in
+    if not_empty left then record r { to = left } ∷ refs_without id rs else refs_without id rs
 
 -- the item with the id goes
 abbrev pub Takes : Edit → ℕ → Type 0

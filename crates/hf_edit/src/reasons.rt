@@ -4,28 +4,19 @@ ghost use Rattle.std.specs.Prelude.{◌≡◌, ◌==◌, ◌&&◌, ◌||◌, Boo
 ghost use Rattle.std.specs.List.{list_any};
 ghost use Rattle.hf_box.specs.Literals.{four};
 ghost use Rattle.hf_box.specs.Walk.{is_kind};
-ghost use Rattle.hf_store.specs.Changes.{needed_by as needed_by_stated};
 ghost use Rattle.hf_store.specs.Seen.{item_of};
 ghost use Rattle.hf_store.specs.Store.{ids_of};
 ghost use Rattle.hf_store.specs.Valid.{Valid};
+ghost use Rattle.hf_deps.specs.Needs.{needed_by as needed_by_stated};
 ghost use Rattle.hf_edit.specs.Edits.{◌or_else◌, named, when, why};
 ghost use Rattle.hf_edit.specs.Edits.{has_essential as has_essential_stated, has_kind as has_kind_stated, is_metadata as is_metadata_stated, is_minor as is_minor_stated};
 ghost use Rattle.hf_edit.specs.Seen.{edit_of};
 
 use crate::edit::Edit;
 use hf_base::FourCc;
-use hf_base::kinds::{MIME, URI};
+use hf_base::kinds::{AUXL, EXIF, MIME, THMB, URI};
 use hf_deps::needed_by;
 use hf_store::{Item, Reason, Store};
-
-/// The type of metadata of a camera: ISO/IEC 23008-12, annex A.
-const EXIF: FourCc = FourCc(*b"Exif");
-
-/// The references of a thumbnail to its picture.
-const THMB: FourCc = FourCc(*b"thmb");
-
-/// The references of an auxiliary picture to its picture.
-const AUXL: FourCc = FourCc(*b"auxl");
 
 /// Whether an item is metadata.
 fn is_metadata(item: &Item<'_>) -> bool

@@ -13,7 +13,7 @@ use Rattle.hf_order.proofs.Members.{has_in, in_has}
 use Rattle.hf_prop.specs.declared.assoc.Assoc.{Assoc}
 use Rattle.hf_prop.specs.declared.assoc.Pick.{Pick}
 use Rattle.hf_prop.specs.declared.iprp.Iprp.{Iprp}
-use Rattle.hf_store.specs.Changes.{is_need}
+use Rattle.hf_links.specs.Kinds.{is_need}
 use Rattle.hf_read.specs.Faults.{is_past}
 use Rattle.hf_read.specs.Kept.{picks_of}
 

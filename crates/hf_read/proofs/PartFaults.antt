@@ -14,7 +14,7 @@ use Rattle.hf_order.proofs.Members.{in_all, all_from, in_filter, has_in, in_has}
 use Rattle.hf_prop.specs.declared.assoc.Assoc.{Assoc}
 use Rattle.hf_prop.specs.declared.assoc.Pick.{Pick}
 use Rattle.hf_prop.specs.declared.iprp.Iprp.{Iprp}
-use Rattle.hf_store.specs.Changes.{is_need}
+use Rattle.hf_links.specs.Kinds.{is_need}
 use Rattle.hf_read.specs.Denotes.{NeedsAreItems, PicksAreProps}
 use Rattle.hf_read.specs.Faults.{no_primary_fault, is_dangling, dangling_need_fault, is_past, bad_property_fault}
 use Rattle.hf_read.specs.Kept.{picks_of}

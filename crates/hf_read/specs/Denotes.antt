@@ -19,7 +19,7 @@ use Rattle.hf_prop.specs.Iprp.{IsIprpWithin}
 use Rattle.hf_prop.specs.declared.assoc.Assoc.{Assoc}
 use Rattle.hf_prop.specs.declared.assoc.Pick.{Pick}
 use Rattle.hf_prop.specs.declared.iprp.Iprp.{Iprp}
-use Rattle.hf_store.specs.Changes.{is_need}
+use Rattle.hf_links.specs.Kinds.{is_need}
 use Rattle.hf_store.specs.Store.{Item, ItemStore}
 use Rattle.hf_store.specs.Valid.{Valid}
 use Rattle.hf_read.specs.Kept.{kept_groups}

@@ -12,7 +12,7 @@ use Rattle.hf_derived.specs.Derived.{fits}
 use Rattle.hf_prop.specs.declared.assoc.Pick.{Pick}
 use Rattle.hf_prop.specs.declared.iprp.Iprp.{Iprp}
 use Rattle.hf_prop.specs.declared.prop.Prop.{Prop}
-use Rattle.hf_store.specs.Changes.{is_need}
+use Rattle.hf_links.specs.Kinds.{is_need}
 use Rattle.hf_store.specs.Derived.{inputs, input_pairs}
 use Rattle.hf_store.specs.LimitFaults.{first_item}
 use Rattle.hf_store.specs.Store.{Item, ids_of}

@@ -5,20 +5,14 @@ ghost use Rattle.std.specs.List.{list_any};
 ghost use Rattle.hf_base.specs.Entries.{has_id};
 ghost use Rattle.hf_base.specs.Members.{Rises};
 ghost use Rattle.hf_base.specs.Reading.{Reads};
-ghost use Rattle.hf_store.specs.Changes.{is_need};
+ghost use Rattle.hf_links.specs.Kinds.{is_need};
 ghost use Rattle.hf_read.specs.Faults.{is_dangling, is_past, no_primary_fault, dangling_need_fault, bad_property_fault};
 ghost use Rattle.hf_read.specs.Kept.{picks_of};
 
 use crate::search::is_item;
-use hf_base::kinds::DIMG;
-use hf_base::{FourCc, ReadRefusal, RefBox};
+use hf_base::{ReadRefusal, RefBox};
+use hf_links::is_need_kind;
 use hf_prop::{Assoc, Iprp, Pick};
-
-/// The references of a picture to the one that it is predicted from.
-const TBAS: FourCc = FourCc(*b"tbas");
-
-/// The references of a picture to one whose colours it is multiplied with.
-const PREM: FourCc = FourCc(*b"prem");
 
 /// Refuses a primary item that is none of these.
 #[tactic(auto, unfolding(crate::specs::Faults::no_primary_fault))]
@@ -30,13 +24,6 @@ pub(crate) fn check_primary(ids: &[u32], primary: u32) -> Result<(), ReadRefusal
         return Err(ReadRefusal::NoPrimary { id: primary });
     }
     Ok(())
-}
-
-/// Whether an item cannot be shown without the items that it has references of this type to.
-fn is_need_kind(kind: FourCc) -> bool
-    ensures { result ≡ is_need kind }
-{
-    kind == DIMG || kind == TBAS || kind == PREM
 }
 
 /// Whether one of these ids is none of the items'.

@@ -3,6 +3,7 @@ use Rattle.std.proofs.Common.{◌≡◌, ℕ, ◌+◌, ◌*◌, ◌≤◌, Bool,
 use Rattle.std.specs.List.{AllByRecursion, flat_map, filter}
 use Rattle.std.proofs.lemmas.Bool.{cases_Bool}
 use Rattle.std.proofs.lemmas.List.{length-map}
+use Rattle.hf_base.specs.declared.four.FourCc.{FourCc}
 use Rattle.hf_box.specs.Head.{box_len, box}
 use Rattle.hf_box.specs.Literals.{four}
 use Rattle.hf_box.specs.Written.{bit, id_width}
@@ -24,9 +25,13 @@ use Rattle.hf_store.proofs.BoxLengths.{length-box, box_len-le}
 use Rattle.hf_store.proofs.FieldLengths.{strings_len, length-hdlr_body, length-pitm_body, length-infe_body, length-iinf_body, length-ipma_entry, length-ipma_body, length-meta_front}
 use Rattle.hf_store.proofs.Lengths.{meta_body_len, meta_len-is}
 use Rattle.hf_store.proofs.Holders.{IsBare}
-use Rattle.hf_store.proofs.PlainLengths.{no_box}
 
 -- ---- what is left out
+
+-- where nothing is listed
+no_box : {A : Type 0} (kind : FourCc) (body : List A → List ℕ) → length (box_if_any kind body []) ≡ 0
+unfolding box_if_any
+no_box kind body = refl
 
 pub no_inputs-bare : (is : List Item) → AllByRecursion IsBare is → input_pairs is ≡ []
 no_inputs-bare [] bare = refl

@@ -1,22 +1,19 @@
 -- What is left of a valid store where items go is valid, where the primary stays and no item that stays loses an input.
-use Rattle.std.proofs.Common.{◌≡◌, ◌≢◌, ℕ, suc, ◌<◌, ◌≤◌, Bool, true, false, not, ◌||◌, cond, List, [], ◌∷◌, length, filter, refl, ap, ◌∙◌, arith, inl, inr, eqb-true, Option, Some, None}
-use Rattle.std.specs.Prelude.{◌==◌, option_map}
-use Rattle.std.specs.List.{AllByRecursion, list_any}
+use Rattle.std.proofs.Common.{◌≡◌, ◌≢◌, ℕ, suc, ◌<◌, ◌≤◌, Bool, true, false, not, List, [], ◌∷◌, length, filter, refl, ap, ◌∙◌, arith, inl, inr, eqb-true}
+use Rattle.std.specs.Prelude.{◌==◌}
+use Rattle.std.specs.List.{AllByRecursion}
 use Rattle.std.proofs.lemmas.Bool.{cases_Bool, eq-eqb}
 use Rattle.hf_box.specs.Literals.{four}
 use Rattle.hf_box.specs.Walk.{is_kind}
-use Rattle.hf_store.specs.Changes.{is_other, cut_refs, cut_item, cut_items, cut, needed_by, why_not_removed, Remove, StepsKeepValidity}
+use Rattle.hf_store.specs.Changes.{is_other, cut_refs, cut_item, cut_items, cut, removed}
 use Rattle.hf_store.specs.Derived.{inputs}
 use Rattle.hf_store.specs.Lists.{IsIn, not_empty}
-use Rattle.hf_store.specs.Store.{RefList, Item, ItemStore, ids_of}
+use Rattle.hf_store.specs.Store.{RefList, Item, ItemStore}
 use Rattle.hf_store.specs.Table.{table_of}
 use Rattle.hf_store.specs.Valid.{body_sum, IsGoodItem, IsGoodRef, Valid}
-use Rattle.hf_store.specs.declared.reason.Reason.{Reason}
-use Rattle.hf_store.specs.declared.reason.Reason.TheVariants.{NoItem, IsPrimary, Needed}
 use Rattle.hf_store.proofs.Cuts.{KeepsInputs, ids_left, in_left, good_items, pairs_left, groups_left, good_groups, sum-left, filter-le}
 use Rattle.hf_store.proofs.CutSizes.{meta_left}
 use Rattle.hf_store.proofs.CutTables.{less_left}
-use Rattle.hf_store.proofs.Needers.{no_needer_is_told}
 use Rattle.hf_store.proofs.Spots.{at_in, holds_here}
 use Rattle.std.proofs.lemmas.List.{length-map}
 
@@ -39,9 +36,9 @@ valid_cut stays s valid primary keeps = record {
   meta = omega (arith, meta_left stays s valid keeps, valid.meta);
 }
 
--- ---- an item that no other one needs
+-- ---- an item of which no other one is made
 
-abbrev dimg : RefList → Bool
+abbrev pub dimg : RefList → Bool
 dimg r = is_kind r.kind (four "dimg")
 
 lacks : (id : ℕ) (ids : List ℕ) → (IsIn id ids → ⊥) → filter (is_other id) ids ≡ ids
@@ -72,41 +69,20 @@ all_in : {A : Type 0} (P : A → Type 0) (xs : List A) → ((x : A) → IsIn x x
 all_in P [] each = tt
 all_in P (x ∷ xs) each = (each x (inl refl), all_in P xs (λ y h. each y (inr h)))
 
-first_or : (b c d : Bool) → b ≡ true → (b || c || d) ≡ true
-first_or true c d e = refl
-first_or false c d e = absurd cc
-
 not-same : (x id : ℕ) → is_other id x ≡ true → x ≢ id
 not-same x id other same = let no : not (x == id) ≡ false = ap not (eq-eqb x id same) in cc
 
-keeps_inputs : (id : ℕ) (s : ItemStore) → Valid s → needed_by id s.items ≡ None → KeepsInputs (is_other id) s.items
+-- no other one of these items has a reference of type `dimg` to the one with the id
+abbrev pub IsNoInput : ℕ → List Item → Type 0
+IsNoInput id is = (i : Item) (r : RefList) → IsIn i is → i.id ≢ id → IsIn r i.refs → dimg r ≡ true → IsIn id r.to → ⊥
+
+keeps_inputs : (id : ℕ) (s : ItemStore) → Valid s → IsNoInput id s.items → KeepsInputs (is_other id) s.items
 keeps_inputs id s valid none =
     all_in (λ (i : Item). is_other id i.id ≡ true → inputs (cut_refs (is_other id) i.refs) ≡ inputs i.refs) s.items
     (λ i there other.
     let at = at_in i s.items there in
     let good : IsGoodItem s.items i = holds_here (IsGoodItem s.items) s.items at.0 i valid.items at.1 in
-    let nobody = (no_needer_is_told s id).0 none i.id (not-same i.id id other) in
-    inputs_stay id s.items i.refs good.refs (λ r has input leads. nobody (i, r, there, refl, has, first_or _ _ _ input, leads)))
+    inputs_stay id s.items i.refs good.refs (λ r has input leads. none i r there (not-same i.id id other) has input leads))
 
--- ---- what speaks against a removal
-
-abbrev reason_of : Bool → Bool → Option ℕ → Option Reason
-reason_of there primary needed = cond (not there) (Some NoItem) (cond primary (Some IsPrimary) (option_map (λ by. Needed by) needed))
-
-record Free (primary : Bool) (needed : Option ℕ) : Type 0 where
-  shown : primary ≡ false
-  not_needed : needed ≡ None
-
-free : (there primary : Bool) (needed : Option ℕ) → reason_of there primary needed ≡ None → Free primary needed
-free true true needed e = absurd cc
-free true false None e = record { shown = refl; not_needed = refl }
-free true false (Some by) e = absurd cc
-free false primary needed e = absurd cc
-
-pub valid_removed : (s : ItemStore) (id : ℕ) → Valid s → why_not_removed s id ≡ None → Valid (cut (is_other id) s)
-valid_removed s id valid none =
-    let f = free (list_any (λ x. x == id) (ids_of s.items)) (s.primary == id) (needed_by id s.items) none in
-    valid_cut (is_other id) s valid (ap not f.shown) (keeps_inputs id s valid f.not_needed)
-
-pub steps_keep_validity : StepsKeepValidity
-steps_keep_validity s (Remove id) valid none = valid_removed s id valid none
+pub valid_removed : (s : ItemStore) (id : ℕ) → Valid s → (s.primary == id) ≡ false → IsNoInput id s.items → Valid (removed id s)
+valid_removed s id valid shown none = valid_cut (is_other id) s valid (ap not shown) (keeps_inputs id s valid none)

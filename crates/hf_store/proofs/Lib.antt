@@ -26,13 +26,9 @@ pub mod References
 pub mod Measured
 pub mod MetaCounts
 pub mod Names
-pub mod Needers
 pub mod Offsets
-pub mod Others
 pub mod Passed
-pub mod PlainLengths
 pub mod Pushed
-pub mod Reasons
 pub mod Recounted
 pub mod RefusedStores
 pub mod Removals

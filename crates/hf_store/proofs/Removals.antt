@@ -1,4 +1,4 @@
--- What is left of a plain store where items go, and of items of which one is taken out.
+-- What is left of items of which one is taken out.
 use Rattle.std.proofs.Common.{sym, ◌∙◌, ◌≡◌, ℕ, zero, suc, ◌<◌, ◌≤◌, Bool, true, false, not, List, [], ◌∷◌, length, filter, refl, ap, arith, inl, inr, eqb-true, ◌+◌, length-append, drop, Some}
 use Rattle.std.specs.Prelude.{◌==◌}
 use Rattle.std.specs.List.{remove}
@@ -10,40 +10,8 @@ use Rattle.std.proofs.lemmas.List.Concat.{length-flat_map}
 use Rattle.hf_store.specs.Valid.{body_sum}
 use Rattle.hf_store.proofs.Spots.{drop_here}
 use Rattle.hf_store.specs.Lists.{RisesFrom}
-use Rattle.hf_store.specs.Store.{Item, ItemStore, ids_of}
-use Rattle.hf_store.specs.Plain.{IsPlainItem, ArePlain, IsPlain}
-use Rattle.hf_store.specs.Changes.{id_at, is_other, cut_refs, cut_item, cut_items, cut_groups, cut, Remove, StepsKeepPlain}
-
--- ---- plain stores
-
-plain_item : (stays : ℕ → Bool) (i : Item) → IsPlainItem i → IsPlainItem (cut_item stays i)
-plain_item stays i plain = record {
-  id = plain.id;
-  shown = plain.shown;
-  name = plain.name;
-  props = plain.props;
-  refs = ap (cut_refs stays) plain.refs;
-  mime = plain.mime;
-  uri = plain.uri;
-  grid = plain.grid;
-  overlay = plain.overlay;
-  identity = plain.identity;
-}
-
-plain_items : (stays : ℕ → Bool) (is : List Item) → ArePlain is → ArePlain (cut_items stays is)
-plain_items stays [] plain = tt
-plain_items stays (i ∷ is) plain =
-    elim (cases_Bool (stays i.id)) [
-      | inl here ↦ rw here (plain_item stays i plain.0, plain_items stays is plain.1)
-      | inr gone ↦ rw gone (plain_items stays is plain.1)
-    ]
-
-pub plain_cut : (stays : ℕ → Bool) (s : ItemStore) → IsPlain s → IsPlain (cut stays s)
-unfolding cut
-plain_cut stays s plain = record { items = plain_items stays s.items plain.items; groups = ap (cut_groups stays) plain.groups }
-
-pub steps_keep_plain : StepsKeepPlain
-steps_keep_plain s (Remove id) plain = plain_cut (is_other id) s plain
+use Rattle.hf_store.specs.Store.{Item, ids_of}
+use Rattle.hf_store.specs.Changes.{id_at, is_other}
 
 not-not : (b : Bool) → not b ≡ false → b ≡ true
 not-not true e = refl

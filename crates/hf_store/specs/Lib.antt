@@ -13,13 +13,11 @@ pub mod Lists
 pub mod Measured
 pub mod Picks
 pub mod References
-pub mod Plain
 pub mod Seen
 pub mod Sizes
 pub mod Stays
 pub mod Store
 pub mod Table
-pub mod Untouched
 pub mod Valid
 pub mod WorkedChanges
 pub mod WorkedDerived

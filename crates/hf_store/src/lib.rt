@@ -12,9 +12,7 @@ pub mod laws;
 pub mod limits;
 pub mod linked;
 mod measuring;
-pub mod plain;
 mod reason;
-mod removal;
 mod size;
 mod store;
 mod tally;
@@ -22,7 +20,6 @@ pub mod worked;
 
 pub use item::{GroupList, Item, ItemList, Props, RefList, Refs};
 pub use reason::Reason;
-pub use removal::{needed_by, remove_item};
 pub use store::{Parts, Store};
 pub use tally::{Counts, in_idat};
 

@@ -141,24 +141,4 @@ impl<'a> Store<'a> {
             counts,
         })
     }
-
-    /// The store of parts that are valid together, which are spent in every case. `NoMemory` comes
-    /// where memory was refused.
-    pub fn of(alloc: Global, parts: Parts<'a>) -> Result<Store<'a>, NoMemory>
-        requires { Valid (stated parts) }
-        ensures { IfOk result (λ store. store ≡ stated parts.entry) }
-    {
-        let items = parts.items.into_vec();
-        let groups = parts.groups.into_vec();
-        let uses = uses_of(alloc, &items)?;
-        let counts = count_items(&items).plus(count_groups(&groups));
-        Ok(Store {
-            brands: parts.brands,
-            primary: parts.primary,
-            items,
-            groups,
-            uses,
-            counts,
-        })
-    }
 }

@@ -1,7 +1,7 @@
 use Rattle.std.proofs.Common.{◌≡◌, ℕ, ◌+◌, Bool, true, false, not, ◌&&◌, cond, List, drop, sym, ap, ◌∙◌, arith, Some}
 use Rattle.std.specs.Prelude.{◌==◌, slice_get}
 use Rattle.std.proofs.lemmas.List.{drop_all}
-use Rattle.hf_store.specs.Changes.{needs, needed_by}
+use Rattle.hf_deps.specs.Needs.{needs, needed_by}
 use Rattle.hf_store.specs.Seen.{item_of}
 use Rattle.hf_store.specs.Store.{Item}
 use Rattle.hf_store.proofs.Spots.{drop_here}

@@ -1,5 +1,5 @@
 use Rattle.std.proofs.Common.{◌≡◌, drop}
-use Rattle.hf_store.specs.Changes.{needed_by}
+use Rattle.hf_deps.specs.Needs.{needed_by}
 use Rattle.hf_deps.proofs.needing.needed_by.Given as goal
 
 abbrev pub invariant-loop-i : goal.invariant-loop-i

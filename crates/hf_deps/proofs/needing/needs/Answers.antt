@@ -2,7 +2,7 @@ use Rattle.std.proofs.Common.{◌≡◌, ℕ, ◌+◌, ◌<◌, Bool, true, fals
 use Rattle.std.specs.Prelude.{◌==◌}
 use Rattle.std.specs.List.{list_any}
 use Rattle.std.proofs.lemmas.List.{drop_all}
-use Rattle.hf_store.specs.Changes.{is_need}
+use Rattle.hf_links.specs.Kinds.{is_need}
 use Rattle.hf_store.specs.declared.item.RefList.{RefList}
 use Rattle.hf_store.proofs.Mapped.{here_at}
 use Rattle.hf_store.proofs.Spots.{drop_here}

@@ -6,4 +6,4 @@ use Rattle.hf_store.proofs.changed.item_goes_from_references_and_groups.Goals as
 
 pub returns : goal.returns
 unfolding second_in_all second_gone two_pictures one_picture cut
-returns c = record { second = refl; none = refl; step = refl; picture = refl; first_place = refl; next_place = refl }
+returns c = record { second = refl; none = refl; picture = refl; first_place = refl; next_place = refl }

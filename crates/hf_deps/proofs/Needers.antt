@@ -4,10 +4,14 @@ use Rattle.std.specs.Prelude.{◌==◌, IsTrue}
 use Rattle.std.specs.List.{list_any}
 use Rattle.std.proofs.lemmas.Bool.{cases_Bool, and_parts, eq-eqb}
 use Rattle.hf_store.specs.Lists.{IsIn, RisesFrom}
-use Rattle.hf_store.specs.Store.{RefList, Item, ItemStore, ids_of}
+use Rattle.hf_store.specs.Changes.{removed}
+use Rattle.hf_store.specs.Store.{Item, ItemStore, ids_of}
 use Rattle.hf_store.specs.Valid.{Valid}
-use Rattle.hf_store.specs.Changes.{is_need, Needs, needs, needed_by, IsLeastNeeder, LeastNeederIsTold, NoNeederIsTold}
+use Rattle.hf_store.specs.declared.item.RefList.{RefList}
+use Rattle.hf_store.proofs.CutValid.{valid_removed}
 use Rattle.hf_store.proofs.Finds.{found, finds}
+use Rattle.hf_links.specs.Kinds.{is_need}
+use Rattle.hf_deps.specs.Needs.{Needs, needs, needed_by, IsLeastNeeder, LeastNeederIsTold, NoNeederIsTold}
 
 -- ---- a test of references
 
@@ -138,3 +142,15 @@ no_needer_is_told s id = (
   λ e a other h. let needer = needer_of s a id other h in none_found id s.items needer.0 e needer.1 needer.3,
   λ none. finds_none id s.items (λ i there need. none i.id (is_not i.id id (and_parts _ _ need).0) (needs_of s i id there need)),
 )
+
+-- ---- an item that no other one needs
+
+first_or : (b c d : Bool) → b ≡ true → (b || c || d) ≡ true
+first_or true c d e = refl
+first_or false c d e = absurd cc
+
+-- what is left of a valid store without such an item, which is not the primary, is valid
+pub valid_unneeded : (s : ItemStore) (id : ℕ) → Valid s → (s.primary == id) ≡ false → needed_by id s.items ≡ None → Valid (removed id s)
+valid_unneeded s id valid shown none =
+    valid_removed s id valid shown
+    (λ i r there other has input leads. (no_needer_is_told s id).0 none i.id other (i, r, there, refl, has, first_or _ _ _ input, leads))

@@ -1,5 +1,0 @@
-use Rattle.hf_store.proofs.Needers.{least_needer_is_told, no_needer_is_told}
-use Rattle.hf_store.proofs.laws.least_needer_is_told.Goals as goal
-
-pub returns : goal.returns
-returns c = record { some = least_needer_is_told; none = no_needer_is_told }
