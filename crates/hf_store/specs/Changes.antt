@@ -2,7 +2,7 @@
 use Rattle.std.specs.Prelude.{ℕ, zero, suc, ◌==◌, Bool, not, ◌&&◌, ◌||◌, List, [], ◌∷◌, ◌++◌, length, map, filter, get_or}
 use Rattle.hf_base.specs.declared.four.FourCc.{FourCc}
 use Rattle.hf_store.specs.Lists.{not_empty}
-use Rattle.hf_table.specs.Held.{is_among, without_kind}
+use Rattle.hf_table.specs.Held.{is_among, without_kind, without_optional}
 use Rattle.hf_store.specs.Store.{Held, RefList, Item, Group, ItemStore, ids_of}
 
 -- the id of the item at a place
@@ -47,6 +47,13 @@ lacking kind i = record i { props = without_kind kind i.props }
 -- the properties of one type go from the item at a place
 abbrev pub without_props : ℕ → FourCc → ItemStore → ItemStore
 without_props i kind s = record s { items = changed_at (lacking kind) i s.items }
+
+abbrev pub lacking_optional : FourCc → Item → Item
+lacking_optional kind i = record i { props = without_optional kind i.props }
+
+-- of the item at a place, the properties of one type go that are not essential
+abbrev pub without_optionals : ℕ → FourCc → ItemStore → ItemStore
+without_optionals i kind s = record s { items = changed_at (lacking_optional kind) i s.items }
 
 -- one more item, behind the others
 abbrev pub added : Item → ItemStore → ItemStore

@@ -13,6 +13,7 @@ pub mod Lists
 pub mod Measured
 pub mod Picks
 pub mod References
+pub mod Room
 pub mod Seen
 pub mod Sizes
 pub mod Stays

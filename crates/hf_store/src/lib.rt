@@ -21,7 +21,7 @@ pub mod worked;
 pub use item::{GroupList, Item, ItemList, Props, RefList, Refs};
 pub use reason::Reason;
 pub use store::{Parts, Store};
-pub use tally::{Counts, in_idat};
+pub use tally::{Counts, count_item, in_idat};
 
 #[cfg(test)]
 mod tests;

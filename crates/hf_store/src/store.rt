@@ -17,6 +17,7 @@ ghost use Rattle.hf_table.specs.Table.{places_of, size_sum};
 mod build;
 mod changes;
 mod lists;
+mod room;
 
 use crate::Item;
 use crate::item::{GroupList, ItemList};

@@ -70,7 +70,7 @@ impl Counts {
     }
 
     /// Both together.
-    pub(crate) fn plus(self, more: Counts) -> Counts
+    pub fn plus(self, more: Counts) -> Counts
         ensures { result ≡ capped_counts (sum_of self more) }
     {
         Counts {
@@ -91,7 +91,7 @@ impl Counts {
     }
 
     /// These without a part of them.
-    pub(crate) fn minus(self, less: Counts) -> Counts
+    pub fn minus(self, less: Counts) -> Counts
         requires { HasCounts self less }
         ensures { sum_of result less ≡ self }
     {
@@ -114,7 +114,7 @@ impl Counts {
 }
 
 /// A mark as a number.
-fn bit(is_set: bool) -> u64
+pub(crate) fn bit(is_set: bool) -> u64
     ensures { result ≡ stated_bit is_set }
 {
     if is_set { 1 } else { 0 }
@@ -180,7 +180,7 @@ pub fn in_idat(item: &Item<'_>) -> bool
 }
 
 /// What is counted of an item.
-pub(crate) fn count_item(item: &Item<'_>) -> Counts
+pub fn count_item(item: &Item<'_>) -> Counts
     ensures { result ≡ capped_counts (counts_of_item (item_of item.now)) }
 {
     let len = item.body.len();

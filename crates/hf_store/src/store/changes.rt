@@ -2,10 +2,10 @@
 
 ghost use Rattle.std.specs.Prelude.{◌≡◌, ◌<◌, length, map, not, OnOk, OnErr};
 ghost use Rattle.std.specs.List.Sorted.{IsStrictlyIncreasing};
-ghost use Rattle.hf_store.specs.Changes.{added, id_at, kept_only, removed, unnamed, with_hidden, with_primary, with_props, without_names, without_props};
+ghost use Rattle.hf_store.specs.Changes.{added, id_at, kept_only, removed, unnamed, with_hidden, with_primary, with_props, without_names, without_optionals, without_props};
 ghost use Rattle.hf_store.specs.Seen.{item_of, items_of};
 ghost use Rattle.hf_store.specs.Valid.{Valid};
-ghost use Rattle.hf_table.specs.Held.{is_among, is_of};
+ghost use Rattle.hf_table.specs.Held.{is_among, is_of, is_optional_of};
 
 use crate::cutting::{Links, Stays, cut_groups, cut_items};
 use crate::item::{Item, Props};
@@ -79,6 +79,24 @@ impl<'a> Store<'a> {
             |held: &Held| -> bool
                 ensures { result ≡ not (is_of kind held.now) }
             { held.prop.kind != kind },
+        );
+        self.counts = left.plus(count_item(item));
+    }
+
+    /// Drops the properties of one type that are not essential, of the item at a place, counted from 0 by
+    /// rising id.
+    pub fn drop_optional(&mut self, i: usize, kind: FourCc)
+        requires place { i < length self.old.items }
+        requires valid { Valid (without_optionals i kind self.old) }
+        ensures { self.new ≡ without_optionals i kind self.old }
+    {
+        let item = &mut self.items[i];
+        self.uses.take_optional(item.props.as_slice(), kind);
+        let left = self.counts.minus(count_item(item));
+        item.props.retain(
+            |held: &Held| -> bool
+                ensures { result ≡ not (is_optional_of kind held.now) }
+            { held.prop.kind != kind || held.essential },
         );
         self.counts = left.plus(count_item(item));
     }
