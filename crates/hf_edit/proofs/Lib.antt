@@ -1,6 +1,11 @@
+pub mod Against
 pub mod Arms
 pub mod Chains
+pub mod Ends
+pub mod Makes
 pub mod Named
+pub mod NextId
 pub mod Parts
+pub mod Sized
 pub mod Steps
 pub mod Untouched

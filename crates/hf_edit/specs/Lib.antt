@@ -3,5 +3,6 @@ pub mod Edits
 pub mod Faults
 pub mod Left
 pub mod Pictures
+pub mod Room
 pub mod Seen
 pub mod Worked

@@ -1,0 +1,5 @@
+use Rattle.hf_edit.proofs.NextId.{next_is}
+use Rattle.hf_edit.proofs.additions.next_id.Goals as goal
+
+pub returns : goal.returns
+returns c = next_is c.args.store.now c.greatest_id.result c.checked_add.result c.greatest_id.ensures c.checked_add.ensures c.greatest_id.type_inv.result
