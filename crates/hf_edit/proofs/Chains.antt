@@ -1,5 +1,5 @@
 -- The reasons against an edit, by what holds of the item that it names.
-use Rattle.std.proofs.Common.{◌≡◌, ℕ, ◌<◌, Bool, true, false, not, refl, ap, ◌∙◌, sym, Option, Some, None}
+use Rattle.std.proofs.Common.{◌≡◌, ℕ, ◌<◌, Bool, false, not, refl, ap, ◌∙◌, sym, Option, Some, None}
 use Rattle.std.specs.Prelude.{◌==◌, slice_get, option_map}
 use Rattle.hf_base.specs.declared.four.FourCc.{FourCc}
 use Rattle.hf_store.specs.Lists.{IsIn, RisesFrom}
@@ -13,29 +13,8 @@ use Rattle.hf_edit.proofs.Named.{is_there, is_nowhere, item_here}
 
 -- ---- the first reason
 
-holds_not : (b : Bool) (reason : Reason) (rest : Option Reason) → (when b reason or_else rest) ≡ None → b ≡ false
-holds_not true reason rest e = absurd cc
-holds_not false reason rest e = refl
-
--- an edit against which there is no reason names an item
-pub names_one : (s : ItemStore) (e : Edit) → why s e ≡ None → is_absent (named e) s ≡ false
-names_one s e free = holds_not (is_absent (named e) s) NoItem _ free
-
 pub why_none : (s : ItemStore) (e : Edit) → (IsIn (named e) (ids_of s.items) → ⊥) → why s e ≡ Some NoItem
 why_none s e none = rw (is_nowhere s (named e) none) refl
-
--- ---- the removal of an item, by its three reasons
-
-removal : (absent primary : Bool) (needer : Option ℕ)
-    → (when absent NoItem or_else when primary IsPrimary or_else option_map (λ by. Needed by) needer or_else None) ≡ None
-    → (absent ≡ false) × (primary ≡ false) × (needer ≡ None)
-removal true primary needer e = absurd cc
-removal false true needer e = absurd cc
-removal false false (Some by) e = absurd cc
-removal false false None e = (refl, refl, refl)
-
-pub free_to_go : (s : ItemStore) (id : ℕ) → why s (Remove id) ≡ None → ((s.primary == id) ≡ false) × (needed_by id s.items ≡ None)
-free_to_go s id free = (removal (is_absent id s) (s.primary == id) (needed_by id s.items) free).1
 
 -- ---- the item that is named stands at a place
 

@@ -1,9 +1,10 @@
 -- An edit against which there is no reason leaves a valid store valid.
-use Rattle.std.proofs.Common.{◌≡◌, ◌<◌, ◌≤◌, ℕ, Bool, true, false, not, cond, length, refl, sym, ap, subst, arith, inl, inr, Some, None}
+use Rattle.std.proofs.Common.{◌≡◌, ◌<◌, ◌≤◌, ◌+◌, ℕ, Bool, true, false, not, cond, length, refl, sym, ap, subst, arith, inl, inr, Some, None}
 use Rattle.std.specs.Prelude.{◌==◌, slice_get}
+use Rattle.std.proofs.lemmas.List.{length-map}
 use Rattle.hf_base.specs.declared.four.FourCc.{FourCc}
 use Rattle.hf_table.specs.Held.{is_of}
-use Rattle.hf_store.specs.Changes.{hide, id_at, lacking, removed, with_hidden, with_primary, without_props}
+use Rattle.hf_store.specs.Changes.{added, hide, id_at, lacking, removed, with_hidden, with_primary, without_props}
 use Rattle.hf_store.specs.Counts.{counts_of}
 use Rattle.hf_store.specs.Lists.{IsIn}
 use Rattle.hf_store.specs.Sizes.{AreFours, counted_meta}
@@ -11,14 +12,17 @@ use Rattle.hf_store.specs.Store.{Item, ItemStore, ids_of}
 use Rattle.hf_store.specs.Table.{table_of}
 use Rattle.hf_store.specs.Valid.{meta_len, Valid}
 use Rattle.hf_store.proofs.Spots.{at_or, within_at}
-use Rattle.std.proofs.lemmas.List.{length-map}
 use Rattle.hf_store.proofs.MetaCounts.{good_fours, valid_fours, meta_is_counted}
-use Rattle.hf_edit.specs.Edits.{Remove, Primary, Hide, Show, Drop, with_item, why}
-use Rattle.hf_edit.specs.Left.{StepsKeepValidity}
 use Rattle.hf_deps.proofs.Needers.{valid_unneeded}
-use Rattle.hf_edit.proofs.Chains.{names_one, free_to_go}
+use Rattle.hf_edit.specs.Additions.{exif_item, greatest_id, primary_item, xmp_item}
+use Rattle.hf_edit.specs.Edits.{Edit, Remove, AddExif, AddXmp, Thumb, Primary, Rotate, Mirror, Crop, Hide, Show, Drop, step, with_item, why}
+use Rattle.hf_edit.specs.Left.{IsGoodEdit, StepsKeepValidity}
+use Rattle.hf_edit.specs.Pictures.{cropped, mirrored, rotated}
+use Rattle.hf_edit.proofs.Coming.{good_exif, good_xmp, kept, next_fits, valid_more, valid_thumbnail}
+use Rattle.hf_edit.proofs.Free.{IsFree, is_free}
 use Rattle.hf_edit.proofs.Named.{is_somewhere, with_item_at}
 use Rattle.hf_edit.proofs.Parts.{IsPart, filter-all, valid_parts}
+use Rattle.hf_edit.proofs.Reshaped.{four_cropped, four_mirrored, four_rotated, valid_reshaped}
 
 -- ---- another primary item
 
@@ -71,12 +75,35 @@ valid_changed id change part s valid =
 
 -- ---- the law
 
+valid_step : (s : ItemStore) (e : Edit) → Valid s → IsGoodEdit e → IsFree s e → Valid (step s e)
+valid_step s (Remove id) valid good free = valid_unneeded s id valid free.shown free.unneeded
+valid_step s (AddExif id tiff) valid good free =
+    let there = is_somewhere s id free.there in
+    let fits = next_fits s valid free.ids in
+    let i = exif_item tiff id (greatest_id s + 1) in
+    valid_more s id there fits i valid refl refl (good_exif s id there fits tiff) (kept (added i s) free.items free.kinds free.body free.meta)
+valid_step s (AddXmp id text) valid good free =
+    let there = is_somewhere s id free.there in
+    let fits = next_fits s valid free.ids in
+    let i = xmp_item text id (greatest_id s + 1) in
+    valid_more s id there fits i valid refl refl (good_xmp s id there fits text) (kept (added i s) free.items free.kinds free.body free.meta)
+valid_step s (Thumb id donor) valid good free =
+    let there = is_somewhere s id free.there in
+    let fits = next_fits s valid free.ids in
+    let kept = kept (step s (Thumb id donor)) free.items free.kinds free.body free.meta in
+    valid_thumbnail s id there fits donor (primary_item donor) refl valid good free.whole kept
+valid_step s (Primary id) valid good free = valid_primary s id valid (is_somewhere s id free.there)
+valid_step s (Rotate id quarters) valid good free =
+    valid_reshaped s id (λ (i : Item). rotated quarters i.props) valid (λ i all. four_rotated quarters i.props all) free.props free.kinds free.meta
+valid_step s (Mirror id axis) valid good free =
+    valid_reshaped s id (λ (i : Item). mirrored axis i.props) valid (λ i all. four_mirrored axis i.props all) free.props free.kinds free.meta
+valid_step s (Crop id x y w h) valid good free = valid_reshaped s id (cropped x y w h) valid (four_cropped x y w h) free.props free.kinds free.meta
+valid_step s (Hide id) valid good free = valid_changed id (hide true) (hidden_part true) s valid
+valid_step s (Show id) valid good free = valid_changed id (hide false) (hidden_part false) s valid
+valid_step s (Drop id kind) valid good free = valid_changed id (lacking kind) (lacking_part kind) s valid
+
 pub steps_keep_validity : StepsKeepValidity
-steps_keep_validity s (Remove id) valid free = let parts = free_to_go s id free in valid_unneeded s id valid parts.0 parts.1
-steps_keep_validity s (Primary id) valid free = valid_primary s id valid (is_somewhere s id (names_one s (Primary id) free))
-steps_keep_validity s (Hide id) valid free = valid_changed id (hide true) (hidden_part true) s valid
-steps_keep_validity s (Show id) valid free = valid_changed id (hide false) (hidden_part false) s valid
-steps_keep_validity s (Drop id kind) valid free = valid_changed id (lacking kind) (lacking_part kind) s valid
+steps_keep_validity s e valid good free = valid_step s e valid good (is_free s e free)
 
 -- ---- the changes of the item at the place where the id stands
 
@@ -100,4 +127,4 @@ module _ (s : ItemStore) (id k : ℕ) (valid : Valid s) (here : slice_get (ids_o
   valid_lacking kind = subst Valid (sym (lacking_at kind)) (valid_changed id (lacking kind) (lacking_part kind) s valid)
 
   pub valid_left : why s (Remove id) ≡ None → Valid (removed (id_at k s.items) s)
-  valid_left free = subst Valid (sym removed_at) (steps_keep_validity s (Remove id) valid free)
+  valid_left free = subst Valid (sym removed_at) (steps_keep_validity s (Remove id) valid tt free)

@@ -4,6 +4,7 @@ use Rattle.hf_store.specs.Lists.{IsIn, not_empty}
 use Rattle.hf_store.specs.Changes.{cut_groups, is_other}
 use Rattle.hf_store.specs.Store.{Item, Group, ItemStore, ids_of}
 use Rattle.hf_store.specs.declared.item.RefList.{RefList}
+use Rattle.hf_store.specs.Table.{table_of}
 use Rattle.hf_store.specs.Valid.{Valid}
 use Rattle.hf_edit.specs.Additions.{exif_item, greatest_id, primary_item, thumbnail_item, xmp_item}
 use Rattle.hf_edit.specs.Edits.{Edit, Remove, AddExif, AddXmp, Thumb, Primary, Rotate, Mirror, Crop, Hide, Show, Drop, step, why}
@@ -121,3 +122,9 @@ NoItemComes =
 -- and all else stays
 abbrev pub RestStays : Type 0
 RestStays = (s : ItemStore) (e : Edit) → IsRestLeft e s (step s e)
+
+-- metadata that comes has no properties, so the distinct properties of all items stay
+abbrev pub MetadataHasNoProps : Type 0
+MetadataHasNoProps =
+    (s : ItemStore) (id : ℕ) (bytes : List ℕ)
+    → (table_of (step s (AddExif id bytes)) ≡ table_of s) × (table_of (step s (AddXmp id bytes)) ≡ table_of s)

@@ -2,6 +2,7 @@ pub mod Additions
 pub mod Edits
 pub mod Faults
 pub mod Left
+pub mod PictureSize
 pub mod Pictures
 pub mod Room
 pub mod Seen

@@ -1,9 +1,7 @@
 -- The size of an item's picture, and how its last properties turn, mirror and cut it. These rules are this project's own.
-use Rattle.std.specs.Prelude.{ℕ, ◌+◌, ◌-◌, ◌^◌, ◌%◌, ◌<◌, ◌==◌, Bool, true, ◌&&◌, ◌||◌, List, [], ◌∷◌, ◌++◌, length, take, fold, slice_get, Option, Some, None, option_map, nat_lt, if◌then◌else◌}
+use Rattle.std.specs.Prelude.{ℕ, ◌+◌, ◌-◌, ◌^◌, ◌%◌, ◌==◌, Bool, true, ◌&&◌, ◌||◌, List, [], ◌∷◌, ◌++◌, length, take, fold, slice_get, Option, Some, None, option_map, nat_lt, if◌then◌else◌}
 use Rattle.std.specs.Option.{option_and_then}
-use Rattle.hf_base.specs.declared.four.FourCc.{FourCc}
 use Rattle.hf_base.specs.declared.kinds.TheConstants.{CLAP, IROT, ISPE}
-use Rattle.hf_box.specs.Walk.{is_kind}
 use Rattle.hf_prop.specs.Views.{axis_in, mirror_at, size_in, turn_by, turn_in, window_at, window_in}
 use Rattle.hf_store.specs.Store.{Held, Item, Prop}
 use Rattle.hf_table.specs.Held.{is_of}
