@@ -17,7 +17,7 @@ use Rattle.hf_store.proofs.MetaCounts.{box_holds, le-if_any, within-meta, no_lin
 
 -- ---- items
 
-bit-le : (b : Bool) → bit b ≤ 1
+pub bit-le : (b : Bool) → bit b ≤ 1
 bit-le true = omega arith
 bit-le false = omega arith
 

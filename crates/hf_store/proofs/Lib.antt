@@ -21,12 +21,15 @@ pub mod LaidFiles
 pub mod LargeStores
 pub mod Lengths
 pub mod Listed
+pub mod Loads
+pub mod Rooms
 pub mod Mapped
 pub mod References
 pub mod Measured
 pub mod MetaCounts
 pub mod Names
 pub mod Offsets
+pub mod Parted
 pub mod Passed
 pub mod Pushed
 pub mod Recounted

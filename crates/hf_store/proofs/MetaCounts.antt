@@ -128,7 +128,7 @@ groups_fit gs top fours sum small =
 
 -- ---- types
 
-all_append : {A : Type 0} (P : A → Type 0) (xs ys : List A) → AllByRecursion P xs → AllByRecursion P ys → AllByRecursion P (xs ++ ys)
+pub all_append : {A : Type 0} (P : A → Type 0) (xs ys : List A) → AllByRecursion P xs → AllByRecursion P ys → AllByRecursion P (xs ++ ys)
 all_append P [] ys some more = more
 all_append P (x ∷ xs) ys some more = (some.0, all_append P xs ys some.1 more)
 

@@ -30,7 +30,7 @@ good_last P (y ∷ ys) x good = good_last P ys x good.1
 plus-none : (c : Counts) → plus c no_counts ≡ c
 plus-none c = grind arith
 
-counts-pushed : (is : List Item) (g : Counts) (x : Item) → plus (counts_of_items (is ++ x ∷ [])) g ≡ plus (plus (counts_of_items is) g) (counts_of_item x)
+pub counts-pushed : (is : List Item) (g : Counts) (x : Item) → plus (counts_of_items (is ++ x ∷ [])) g ≡ plus (plus (counts_of_items is) g) (counts_of_item x)
 counts-pushed is g x =
     ap (λ c. plus c g) (summed-append counts_of_item is (x ∷ []) ∙ ap (plus (counts_of_items is)) (summed-cons counts_of_item x [] ∙ plus-none (counts_of_item x))) ∙ plus-swap (counts_of_items is) (counts_of_item x) g
 

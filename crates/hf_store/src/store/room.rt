@@ -2,13 +2,12 @@
 
 ghost use Rattle.std.specs.Prelude.{◌≡◌, ◌<◌, ◌≤◌, ◌++◌, ◌==◌, List, length, nat_le, not};
 ghost use Rattle.std.specs.List.{list_any};
-ghost use Rattle.hf_base.specs.declared.four.FourCc.{FourCc as StatedFour};
 ghost use Rattle.hf_base.specs.declared.limits.TheConstants as limits;
 ghost use Rattle.hf_prop.specs.declared.prop.Prop.{Prop as StatedProp};
 ghost use Rattle.hf_store.specs.Capped.{capped, capped_counts};
 ghost use Rattle.hf_store.specs.Changes.{added, with_props};
 ghost use Rattle.hf_store.specs.Counts.{counts_of, counts_of_item};
-ghost use Rattle.hf_store.specs.Room.{AreFourHeld, AreFourRefs, bytes_more, kinds_more, props_with};
+ghost use Rattle.hf_store.specs.Room.{Adds, AreFourHeld, AreFourRefs, props_with};
 ghost use Rattle.hf_store.specs.Sizes.{AreFours};
 ghost use Rattle.hf_store.specs.Store.{Item as StatedItem, ItemStore};
 ghost use Rattle.hf_store.specs.Table.{table_of};
@@ -20,6 +19,7 @@ ghost use Rattle.hf_table.specs.Uses.{Tallies};
 use crate::size::{meta_size, short_inner};
 use crate::store::Store;
 use crate::tally::{Counts, bit};
+use hf_base::FourCc;
 use hf_base::limits::META;
 use hf_prop::{Held, Prop};
 use hf_table::Uses;
@@ -32,13 +32,20 @@ struct Load {
     bytes: u64,
 }
 
+/// Does nothing, and says that a type has four bytes.
+fn four(kind: FourCc)
+    ensures { IsFour kind }
+{
+    let _bytes = kind.0;
+}
+
 /// At how many places a list has a property.
 fn places(props: &[Held<'_>], prop: &Prop<'_>) -> usize
     ensures { result ≡ places_of prop.now (props_in props.now) }
 {
     let mut count = 0;
     for held in props {
-        if held.prop == *prop {
+        if *prop == held.prop {
             count += 1;
         }
     }
@@ -54,14 +61,14 @@ fn is_new<'a>(uses: &Uses<'a>, less: &[Held<'a>], earlier: &[Held<'a>], prop: &P
 
 /// What a list of properties adds to those that are counted, of which some go before.
 fn load_of<'a>(uses: &Uses<'a>, less: &[Held<'a>], more: &[Held<'a>]) -> Load
-    ensures load { (left : List StatedProp) → Tallies uses.now (left ++ props_in less.now) → result ≡ record { kinds = kinds_more left (props_in more.now); bytes = capped (bytes_more left (props_in more.now)) } }
+    ensures adds { Adds uses.now less.now more.now result }
     ensures few { result.kinds ≤ length more.now }
     ensures fours { AreFourHeld more.now }
 {
     let mut load = Load { kinds: 0, bytes: 0 };
     for k in 0..more.len() {
         let prop = &more[k].prop;
-        let _kind = prop.kind;
+        four(prop.kind);
         if is_new(uses, less, &more[..k], prop) {
             let size = prop.body.as_slice().len() as u64 + 8;
             load = Load {
@@ -130,12 +137,13 @@ impl<'a> Store<'a> {
         ensures { result ≡ nat_le (meta_len (with_props i (props_with kept more.now i self.now) self.now)) limits.META }
     {
         let load = self.load_with(i, kept, more);
+        let before = self.counts;
         let old = self.at(i).props.len();
         let new = kept.min(old) + more.len();
         let counts = Counts {
-            holders: self.counts.holders - bit(old > 0) + bit(new > 0),
-            picks: self.counts.picks - old as u64 + new as u64,
-            ..self.counts
+            holders: before.holders - bit(old > 0) + bit(new > 0),
+            picks: before.picks - old as u64 + new as u64,
+            ..before
         };
         fits_meta(&counts, load)
     }
