@@ -1,8 +1,8 @@
 //! Worked needs. Each is the contract of a function that does nothing.
 
 ghost use Rattle.std.specs.Prelude.{◌≡◌, None, Some, [], ◌∷◌};
-ghost use Rattle.hf_store.specs.WorkedChanges.{needed_by_three, third_refers, third_to_second};
-ghost use Rattle.hf_store.specs.WorkedStores.{references};
+ghost use Rattle.hf_worked.specs.WorkedChanges.{needed_by_three, third_refers, third_to_second};
+ghost use Rattle.hf_worked.specs.WorkedStores.{references};
 ghost use Rattle.hf_deps.specs.Needs.{Needs, needed_by};
 
 /// A reference of type `dimg`, `tbas` or `prem` needs its item, and no other: it counts in

@@ -2,8 +2,8 @@
 use Rattle.std.specs.Prelude.{true, List, [], ◌∷◌}
 use Rattle.hf_box.specs.Literals.{hex_of}
 use Rattle.hf_store.specs.Store.{Held, ItemStore}
-use Rattle.hf_store.specs.WorkedChanges.{described, grouped, named, sized}
-use Rattle.hf_store.specs.WorkedStores.{essential, heic, optional, plain}
+use Rattle.hf_worked.specs.WorkedChanges.{described, grouped, named, sized}
+use Rattle.hf_worked.specs.WorkedStores.{essential, heic, optional, plain}
 
 -- a turn that a reader has to know, and one that it does not
 abbrev pub turn : Held

@@ -2,9 +2,9 @@
 
 ghost use Rattle.std.specs.Prelude.{◌≡◌, None, Some, [], ◌∷◌};
 ghost use Rattle.hf_box.specs.Literals.{four};
-ghost use Rattle.hf_store.specs.BadStores.{primary_of_none};
-ghost use Rattle.hf_store.specs.WorkedChanges.{described_pair, pair_shown, second_in_all, second_gone};
-ghost use Rattle.hf_store.specs.WorkedStores.{every_feature, four_by_four, identity_item, one_picture, photograph, two_pictures};
+ghost use Rattle.hf_worked.specs.BadStores.{primary_of_none};
+ghost use Rattle.hf_worked.specs.WorkedChanges.{described_pair, pair_shown, second_in_all, second_gone};
+ghost use Rattle.hf_worked.specs.WorkedStores.{every_feature, four_by_four, identity_item, one_picture, photograph, two_pictures};
 ghost use Rattle.hf_store.specs.declared.reason.Reason.TheVariants.{IsEssential, IsHidden, IsMinor, IsPrimary, Needed, NoItem, NoProperty, NotImage};
 ghost use Rattle.hf_edit.specs.Edits.{Drop, Hide, Primary, Remove, Show, step, why};
 ghost use Rattle.hf_edit.specs.Worked.{hidden_metadata, holding, optional_turn, pair_unsized, second_primary, turn};

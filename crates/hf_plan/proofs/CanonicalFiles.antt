@@ -3,12 +3,12 @@ use Rattle.std.proofs.Common.{◌≡◌, ◌+◌, ◌^◌, ◌<◌, ◌≤◌, �
 use Rattle.hf_store.specs.Store.{ItemStore}
 use Rattle.hf_store.specs.Layout.{own, idat_body, mdat_body, laid}
 use Rattle.hf_store.specs.Valid.{Valid}
-use Rattle.hf_store.specs.WorkedStores.{one_picture, one_empty_item, greatest_narrow_id, least_wide_id, two_widths, turned_picture, sized_picture, properties_127, properties_128, properties_300, identity_item, overlays, two_alternatives, picture_with_exif, picture_with_xmp, picture_with_thumbnail, every_feature, every_feature_wide, photograph, photograph_redacted, photograph_bare}
-use Rattle.hf_store.specs.WorkedFiles.{file_of_one_picture, file_of_one_empty_item, file_of_greatest_narrow_id, file_of_least_wide_id, file_of_two_widths, file_of_turned_picture, file_of_sized_picture, file_of_identity_item, file_of_overlays, file_of_two_alternatives, file_of_picture_with_exif, file_of_picture_with_xmp, file_of_picture_with_thumbnail, file_of_every_feature, file_of_every_feature_wide}
-use Rattle.hf_store.specs.WorkedPhotograph.{file_of_photograph, file_of_photograph_redacted, file_of_photograph_bare}
-use Rattle.hf_store.specs.WorkedTables.{file_of_properties_127, file_of_properties_128, file_of_properties_300}
-use Rattle.hf_store.proofs.ValidStores.{layout, valid_one_picture, valid_one_empty_item, valid_greatest_narrow_id, valid_least_wide_id, valid_two_widths, valid_turned_picture, valid_sized_picture, valid_properties_127, valid_properties_128, valid_properties_300, valid_identity_item, valid_overlays, valid_two_alternatives, valid_picture_with_exif, valid_picture_with_xmp, valid_picture_with_thumbnail, valid_every_feature, valid_every_feature_wide, valid_photograph, valid_photograph_redacted, valid_photograph_bare}
-use Rattle.hf_store.proofs.LaidFiles.{laid_one_picture, laid_one_empty_item, laid_greatest_narrow_id, laid_least_wide_id, laid_two_widths, laid_turned_picture, laid_sized_picture, laid_properties_127, laid_properties_128, laid_properties_300, laid_identity_item, laid_overlays, laid_two_alternatives, laid_picture_with_exif, laid_picture_with_xmp, laid_picture_with_thumbnail, laid_every_feature, laid_every_feature_wide, laid_photograph, laid_photograph_redacted, laid_photograph_bare}
+use Rattle.hf_worked.specs.WorkedStores.{one_picture, one_empty_item, greatest_narrow_id, least_wide_id, two_widths, turned_picture, sized_picture, properties_127, properties_128, properties_300, identity_item, overlays, two_alternatives, picture_with_exif, picture_with_xmp, picture_with_thumbnail, every_feature, every_feature_wide, photograph, photograph_redacted, photograph_bare}
+use Rattle.hf_worked.specs.WorkedFiles.{file_of_one_picture, file_of_one_empty_item, file_of_greatest_narrow_id, file_of_least_wide_id, file_of_two_widths, file_of_turned_picture, file_of_sized_picture, file_of_identity_item, file_of_overlays, file_of_two_alternatives, file_of_picture_with_exif, file_of_picture_with_xmp, file_of_picture_with_thumbnail, file_of_every_feature, file_of_every_feature_wide}
+use Rattle.hf_worked.specs.WorkedPhotograph.{file_of_photograph, file_of_photograph_redacted, file_of_photograph_bare}
+use Rattle.hf_worked.specs.WorkedTables.{file_of_properties_127, file_of_properties_128, file_of_properties_300}
+use Rattle.hf_worked.proofs.ValidStores.{layout, valid_one_picture, valid_one_empty_item, valid_greatest_narrow_id, valid_least_wide_id, valid_two_widths, valid_turned_picture, valid_sized_picture, valid_properties_127, valid_properties_128, valid_properties_300, valid_identity_item, valid_overlays, valid_two_alternatives, valid_picture_with_exif, valid_picture_with_xmp, valid_picture_with_thumbnail, valid_every_feature, valid_every_feature_wide, valid_photograph, valid_photograph_redacted, valid_photograph_bare}
+use Rattle.hf_worked.proofs.LaidFiles.{laid_one_picture, laid_one_empty_item, laid_greatest_narrow_id, laid_least_wide_id, laid_two_widths, laid_turned_picture, laid_sized_picture, laid_properties_127, laid_properties_128, laid_properties_300, laid_identity_item, laid_overlays, laid_two_alternatives, laid_picture_with_exif, laid_picture_with_xmp, laid_picture_with_thumbnail, laid_every_feature, laid_every_feature_wide, laid_photograph, laid_photograph_redacted, laid_photograph_bare}
 use Rattle.hf_plan.specs.Canon.{Canon}
 use Rattle.hf_plan.proofs.Bounds.{own_homes, written_valid}
 

@@ -4,9 +4,9 @@ use Rattle.hf_store.specs.Store.{ItemStore}
 use Rattle.hf_store.specs.Layout.{own, has_bytes, laid}
 use Rattle.hf_store.proofs.Finds.{some_has}
 use Rattle.hf_store.proofs.Lengths.{meta_body_len}
-use Rattle.hf_store.proofs.ValidStores.{layout}
+use Rattle.hf_worked.proofs.ValidStores.{layout}
 use Rattle.hf_plan.specs.Lay.{IsWritten, Lay}
-use Rattle.hf_store.specs.LargeStores.{picture_of}
+use Rattle.hf_worked.specs.LargeStores.{picture_of}
 use Rattle.hf_plan.specs.Large.{picture_and_none, LongestNarrow, ShortestWide, NoneFits}
 use Rattle.hf_plan.proofs.Lengths.{file_len, length-laid, length-LayBy}
 

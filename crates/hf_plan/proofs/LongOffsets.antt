@@ -3,8 +3,8 @@ use Rattle.std.proofs.Common.{◌≡◌, ◌+◌, ◌^◌, ◌<◌, ◌≤◌, �
 use Rattle.hf_store.specs.Store.{ItemStore}
 use Rattle.hf_store.specs.Layout.{own, idat_body, mdat_body, laid}
 use Rattle.hf_store.specs.Valid.{Valid}
-use Rattle.hf_store.specs.WorkedStores.{one_picture, every_feature, every_feature_wide}
-use Rattle.hf_store.proofs.ValidStores.{layout, valid_one_picture, valid_every_feature, valid_every_feature_wide}
+use Rattle.hf_worked.specs.WorkedStores.{one_picture, every_feature, every_feature_wide}
+use Rattle.hf_worked.proofs.ValidStores.{layout, valid_one_picture, valid_every_feature, valid_every_feature_wide}
 use Rattle.hf_plan.specs.Lay.{Lay}
 use Rattle.hf_plan.specs.LongOffsets.{long_file_of_one_picture, long_file_of_every_feature, long_file_of_every_feature_wide}
 use Rattle.hf_plan.proofs.Bounds.{own_homes, written_valid}

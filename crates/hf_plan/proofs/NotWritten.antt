@@ -7,11 +7,11 @@ use Rattle.hf_prop.specs.Iprp.{is_long_table}
 use Rattle.hf_store.specs.Store.{Prop, Item}
 use Rattle.hf_store.specs.Table.{table_of}
 use Rattle.hf_store.specs.Layout.{own, is_wide, with_bytes}
-use Rattle.hf_store.specs.BadStores.{minor_of_five_bytes, id_of_five_bytes, group_of_wide_version, group_of_wide_flags, group_of_wide_id, properties_256}
-use Rattle.hf_store.specs.LargeStores.{picture_of, referring_to}
-use Rattle.hf_store.specs.LimitStores.{numbered, holder, holders}
+use Rattle.hf_worked.specs.BadStores.{minor_of_five_bytes, id_of_five_bytes, group_of_wide_version, group_of_wide_flags, group_of_wide_id, properties_256}
+use Rattle.hf_worked.specs.LargeStores.{picture_of, referring_to}
+use Rattle.hf_worked.specs.LimitStores.{numbered, holder, holders}
 use Rattle.hf_store.proofs.Finds.{some_has}
-use Rattle.hf_store.proofs.Holders.{kind, holders-table, number-kind, from_on}
+use Rattle.hf_worked.proofs.Holders.{kind, holders-table, number-kind, from_on}
 use Rattle.hf_plan.specs.Lay.{IsWrittenNumber, IsWrittenItem, IsWrittenExtent}
 use Rattle.hf_plan.specs.Unwritten.{HasNoFile, wide_primary, wide_reference, wide_entity, group_of, ItemsAreCounted, ReferencesAreCounted, EntitiesAreCounted, PropertiesAreNumbered, LengthsFit}
 

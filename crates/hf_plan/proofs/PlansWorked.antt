@@ -1,7 +1,7 @@
 -- The plans of worked stores.
 use Rattle.std.proofs.Common.{◌≡◌, true, refl}
-use Rattle.hf_store.specs.WorkedStores.{tile, tiles, thumbnail, photograph, every_feature}
-use Rattle.hf_store.proofs.ValidStores.{layout}
+use Rattle.hf_worked.specs.WorkedStores.{tile, tiles, thumbnail, photograph, every_feature}
+use Rattle.hf_worked.proofs.ValidStores.{layout}
 use Rattle.hf_plan.specs.Plan.{sizes_of, IsPlan}
 use Rattle.hf_plan.proofs.Numbers.{first_use}
 use Rattle.hf_plan.specs.WorkedPlans.{plan_of_photograph, plan_of_every_feature, long_sizes_of_every_feature}

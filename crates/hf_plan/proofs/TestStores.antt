@@ -13,11 +13,11 @@ use Rattle.hf_store.specs.Seen.{item_of, items_of}
 use Rattle.hf_store.specs.Store.{Item as Stated, Group as StatedGroup, ItemStore}
 use Rattle.hf_store.specs.Table.{table_of}
 use Rattle.hf_store.specs.Valid.{Valid}
-use Rattle.hf_store.specs.WorkedStores.{heic}
+use Rattle.hf_worked.specs.WorkedStores.{heic}
 use Rattle.hf_store.specs.declared.item.Item.{Item}
 use Rattle.hf_store.proofs.Ends.{ends}
 use Rattle.hf_store.proofs.Finds.{found}
-use Rattle.hf_store.proofs.ValidStores.{layout}
+use Rattle.hf_worked.proofs.ValidStores.{layout}
 use Rattle.hf_plan.specs.Plan.{start_of, numbers_of, Planned, IsNumber, IsPlan}
 use Rattle.hf_plan.specs.TestStores.{tile, grid, pair, tiled}
 

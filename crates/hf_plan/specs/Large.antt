@@ -1,8 +1,8 @@
 -- Stores with payloads about as long as four bytes can say, whatever these payloads hold.
 use Rattle.std.specs.Prelude.{ℕ, ◌≡◌, ◌-◌, ◌^◌, List, [], ◌∷◌, length}
 use Rattle.hf_store.specs.Store.{ItemStore}
-use Rattle.hf_store.specs.LargeStores.{picture_of}
-use Rattle.hf_store.specs.WorkedStores.{heic, plain}
+use Rattle.hf_worked.specs.LargeStores.{picture_of}
+use Rattle.hf_worked.specs.WorkedStores.{heic, plain}
 use Rattle.hf_plan.specs.Lay.{Lay}
 use Rattle.hf_plan.specs.Canon.{Canon}
 

@@ -2,7 +2,7 @@
 use Rattle.std.specs.Prelude.{true, [], ◌∷◌, codes}
 use Rattle.hf_box.specs.Literals.{four, hex_of}
 use Rattle.hf_store.specs.Store.{Item, Group, ItemStore}
-use Rattle.hf_store.specs.WorkedStores.{heic, plain, essential, optional, references}
+use Rattle.hf_worked.specs.WorkedStores.{heic, plain, essential, optional, references}
 
 abbrev pub tile : Item
 tile =

@@ -2,10 +2,10 @@
 use Rattle.std.specs.Prelude.{ℕ, ◌≡◌, ◌^◌, false, List, [], ◌∷◌, length}
 use Rattle.hf_store.specs.Store.{ItemStore}
 use Rattle.hf_store.specs.Layout.{is_wide}
-use Rattle.hf_store.specs.BadStores.{only, grouped, alternative}
-use Rattle.hf_store.specs.LargeStores.{picture_of, referring_to}
-use Rattle.hf_store.specs.LimitStores.{holders}
-use Rattle.hf_store.specs.WorkedStores.{plain}
+use Rattle.hf_worked.specs.BadStores.{only, grouped, alternative}
+use Rattle.hf_worked.specs.LargeStores.{picture_of, referring_to}
+use Rattle.hf_worked.specs.LimitStores.{holders}
+use Rattle.hf_worked.specs.WorkedStores.{plain}
 use Rattle.hf_plan.specs.Lay.{Lay}
 
 -- with no width of offsets

@@ -1,6 +1,6 @@
 //! Stores with a number that its field cannot say have no file. Each is the contract of a function that does nothing.
 
-ghost use Rattle.hf_store.specs.BadStores.{group_of_wide_flags, group_of_wide_id, group_of_wide_version, id_of_five_bytes, minor_of_five_bytes, properties_256};
+ghost use Rattle.hf_worked.specs.BadStores.{group_of_wide_flags, group_of_wide_id, group_of_wide_version, id_of_five_bytes, minor_of_five_bytes, properties_256};
 ghost use Rattle.hf_plan.specs.Unwritten.{wide_entity, wide_primary, wide_reference, EntitiesAreCounted, HasNoFile, ItemsAreCounted, LengthsFit, PropertiesAreNumbered, ReferencesAreCounted};
 
 /// Numbers that take a byte more than their field has.

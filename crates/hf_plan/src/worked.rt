@@ -1,13 +1,13 @@
 //! Worked stores and their canonical files, byte by byte. Each is the contract of a function that does nothing.
 
-ghost use Rattle.hf_store.specs.WorkedStores.{one_picture, one_empty_item, greatest_narrow_id, least_wide_id, two_widths, turned_picture, sized_picture, properties_127, properties_128, properties_300, identity_item, overlays, two_alternatives, picture_with_exif, picture_with_xmp, picture_with_thumbnail, every_feature, every_feature_wide, photograph, photograph_redacted, photograph_bare};
+ghost use Rattle.hf_worked.specs.WorkedStores.{one_picture, one_empty_item, greatest_narrow_id, least_wide_id, two_widths, turned_picture, sized_picture, properties_127, properties_128, properties_300, identity_item, overlays, two_alternatives, picture_with_exif, picture_with_xmp, picture_with_thumbnail, every_feature, every_feature_wide, photograph, photograph_redacted, photograph_bare};
 ghost use Rattle.hf_plan.specs.Canon.{Canon};
 ghost use Rattle.hf_plan.specs.Lay.{Lay};
 ghost use Rattle.hf_plan.specs.LongOffsets.{long_file_of_every_feature, long_file_of_every_feature_wide, long_file_of_one_picture};
 ghost use Rattle.hf_plan.specs.Large.{LongestNarrow, NoneFits, ShortestWide};
-ghost use Rattle.hf_store.specs.WorkedFiles.{file_of_one_picture, file_of_one_empty_item, file_of_greatest_narrow_id, file_of_least_wide_id, file_of_two_widths, file_of_turned_picture, file_of_sized_picture, file_of_identity_item, file_of_overlays, file_of_two_alternatives, file_of_picture_with_exif, file_of_picture_with_xmp, file_of_picture_with_thumbnail, file_of_every_feature, file_of_every_feature_wide};
-ghost use Rattle.hf_store.specs.WorkedPhotograph.{file_of_photograph, file_of_photograph_redacted, file_of_photograph_bare};
-ghost use Rattle.hf_store.specs.WorkedTables.{file_of_properties_127, file_of_properties_128, file_of_properties_300};
+ghost use Rattle.hf_worked.specs.WorkedFiles.{file_of_one_picture, file_of_one_empty_item, file_of_greatest_narrow_id, file_of_least_wide_id, file_of_two_widths, file_of_turned_picture, file_of_sized_picture, file_of_identity_item, file_of_overlays, file_of_two_alternatives, file_of_picture_with_exif, file_of_picture_with_xmp, file_of_picture_with_thumbnail, file_of_every_feature, file_of_every_feature_wide};
+ghost use Rattle.hf_worked.specs.WorkedPhotograph.{file_of_photograph, file_of_photograph_redacted, file_of_photograph_bare};
+ghost use Rattle.hf_worked.specs.WorkedTables.{file_of_properties_127, file_of_properties_128, file_of_properties_300};
 
 /// Ids, and items without bytes. Files of 193, 174, 193, 203 and 245 bytes.
 pub fn ids_are_written()

@@ -1,7 +1,7 @@
 //! Plans of worked stores. Each is the contract of a function that does nothing.
 
 ghost use Rattle.std.specs.Prelude.{◌≡◌, true};
-ghost use Rattle.hf_store.specs.WorkedStores.{every_feature, photograph};
+ghost use Rattle.hf_worked.specs.WorkedStores.{every_feature, photograph};
 ghost use Rattle.hf_plan.specs.Plan.{sizes_of, IsPlan};
 ghost use Rattle.hf_plan.specs.WorkedPlans.{long_sizes_of_every_feature, plan_of_every_feature, plan_of_photograph};
 

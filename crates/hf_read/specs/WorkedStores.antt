@@ -4,7 +4,7 @@ use Prim.Native.String.{String}
 use Rattle.hf_box.specs.Literals.{four, hex_of}
 use Rattle.hf_links.specs.Grpl.{Group}
 use Rattle.hf_store.specs.Store.{Item, ItemStore}
-use Rattle.hf_store.specs.WorkedStores.{heic, plain, essential, optional, references}
+use Rattle.hf_worked.specs.WorkedStores.{heic, plain, essential, optional, references}
 
 -- with `heic` brands, and the first item as the primary one
 abbrev pub store_of : List Item → List Group → ItemStore

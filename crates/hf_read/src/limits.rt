@@ -6,7 +6,7 @@ ghost use Rattle.hf_base.specs.declared.fault.ReadRefusal.TheVariants.{DeriveCyc
 ghost use Rattle.hf_base.specs.declared.limits.TheConstants.{META};
 ghost use Rattle.hf_store.specs.Store.{ItemStore};
 ghost use Rattle.hf_store.specs.Valid.{meta_len};
-ghost use Rattle.hf_store.specs.WorkedStores.{plain};
+ghost use Rattle.hf_worked.specs.WorkedStores.{plain};
 ghost use Rattle.hf_store.specs.LimitFaults.{too_many_items_fault, too_many_links_fault, meta_too_long_fault, limits_fault};
 ghost use Rattle.hf_read.specs.Reading.{checked};
 ghost use Rattle.hf_read.specs.WorkedStores.{linked, store_of};

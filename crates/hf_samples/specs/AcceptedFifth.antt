@@ -3,7 +3,7 @@
 -- A comment says how the file came of a valid one: by which change to its boxes or bytes, or which faults were aimed at (another may come of it).
 use Rattle.std.specs.Prelude.{List, [], ◌∷◌, ◌++◌, true, codes}
 use Rattle.hf_box.specs.Literals.{four, hex_of}
-use Rattle.hf_store.specs.WorkedStores.{plain, essential, optional, references}
+use Rattle.hf_worked.specs.WorkedStores.{plain, essential, optional, references}
 use Rattle.hf_samples.specs.Samples.{AcceptedFile, accepted}
 
 unfoldable pub fifth_files : List AcceptedFile

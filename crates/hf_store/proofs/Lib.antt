@@ -1,4 +1,3 @@
-pub mod BareLengths
 pub mod Bodies
 pub mod BoxLengths
 pub mod Capped
@@ -13,12 +12,7 @@ pub mod Ends
 pub mod Few
 pub mod FewCounts
 pub mod FieldLengths
-pub mod GridFiles
-pub mod Holders
 pub mod Finds
-pub mod KeptLimits
-pub mod LaidFiles
-pub mod LargeStores
 pub mod Lengths
 pub mod Listed
 pub mod Loads
@@ -33,7 +27,6 @@ pub mod Parted
 pub mod Passed
 pub mod Pushed
 pub mod Recounted
-pub mod RefusedStores
 pub mod Removals
 pub mod Removed
 pub mod ShortBoxes
@@ -41,7 +34,5 @@ pub mod Sizes
 pub mod Spots
 pub mod Tables
 pub mod Tallied
-pub mod TestStores
 pub mod Uses
-pub mod ValidPairs
-pub mod ValidStores
+pub mod Wholes

@@ -1,14 +1,11 @@
-pub mod BadStores
 pub mod Capped
 pub mod Changes
 pub mod Counts
 pub mod Derived
-pub mod LargeStores
 pub mod Kept
 pub mod Layout
 pub mod Offsets
 pub mod LimitFaults
-pub mod LimitStores
 pub mod Lists
 pub mod Measured
 pub mod Picks
@@ -20,11 +17,3 @@ pub mod Stays
 pub mod Store
 pub mod Table
 pub mod Valid
-pub mod WorkedChanges
-pub mod WorkedDerived
-pub mod WorkedFiles
-pub mod WorkedGrids
-pub mod WorkedLinks
-pub mod WorkedPhotograph
-pub mod WorkedStores
-pub mod WorkedTables

@@ -1,14 +1,14 @@
 //! What is left of references and groups where items go.
 
 ghost use Rattle.std.specs.Prelude.{◌≡◌, length, map, filter};
-ghost use Rattle.std.specs.List.{sum_by};
+ghost use Rattle.std.specs.List.{list_all, sum_by};
 ghost use Rattle.hf_links.specs.Grpl.{group_of, groups_of};
 ghost use Rattle.hf_store.specs.Capped.{capped};
 ghost use Rattle.hf_store.specs.Changes.{cut_list as cut_list_stated, cut_refs as cut_refs_stated, cut_item as cut_item_stated, cut_group as cut_group_stated, cut_groups as cut_groups_stated, group_stays as group_stays_stated};
 ghost use Rattle.hf_store.specs.Counts.{targets_of};
 ghost use Rattle.hf_store.specs.Lists.{not_empty};
 ghost use Rattle.hf_store.specs.Seen.{item_of, items_of};
-ghost use Rattle.hf_store.specs.Stays.{IsSearchable, stays_of};
+ghost use Rattle.hf_store.specs.Stays.{IsSearchable, is_whole, stays_of};
 ghost use Rattle.hf_store.specs.Store.{Item as StatedItem};
 
 use crate::Item;
@@ -79,6 +79,30 @@ fn has_ids(list: &RefList) -> bool
     list.to.len() > 0
 }
 
+/// Whether all of some ids stay.
+fn all_stay(ids: &[u32], stays: &Stays<'_>) -> bool
+    requires { IsSearchable stays.now }
+    ensures { result ≡ list_all (stays_of stays.now) ids.now }
+{
+    ids.iter().all(|id| stays.has(*id))
+}
+
+/// Whether nothing of a list of references goes.
+fn list_stays(list: &RefList, stays: &Stays<'_>) -> bool
+    requires { IsSearchable stays.now }
+    ensures { result ≡ is_whole (stays_of stays.now) list.now }
+{
+    has_ids(list) && all_stay(list.to.as_slice(), stays)
+}
+
+/// Whether nothing of lists of references goes.
+fn refs_stay(refs: &[RefList], stays: &Stays<'_>) -> bool
+    requires { IsSearchable stays.now }
+    ensures { result ≡ list_all (is_whole (stays_of stays.now)) refs.now }
+{
+    refs.iter().all(|list| list_stays(list, stays))
+}
+
 /// What is left of references; a list that would be empty goes.
 fn cut_refs(refs: Refs, stays: &Stays<'_>) -> Refs
     requires { IsSearchable stays.now }
@@ -94,11 +118,14 @@ fn cut_refs(refs: Refs, stays: &Stays<'_>) -> Refs
     Series::from_vec(lists)
 }
 
-/// Takes the ids of items that go out of an item's references.
+/// Takes the ids of items that go out of an item's references, which stay untouched where none goes.
 fn cut_item(alloc: Global, item: &mut Item<'_>, stays: &Stays<'_>)
     requires { IsSearchable stays.now }
     ensures { item_of item.new ≡ cut_item_stated (stays_of stays.now) (item_of item.old) }
 {
+    if refs_stay(item.refs.as_slice(), stays) {
+        return;
+    }
     let refs = mem::replace(&mut item.refs, Series::new(alloc));
     item.refs = cut_refs(refs, stays);
 }

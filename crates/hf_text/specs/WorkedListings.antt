@@ -2,7 +2,7 @@
 use Rattle.std.specs.Prelude.{ℕ, true, List, [], ◌∷◌, ◌++◌, codes}
 use Rattle.hf_box.specs.Literals.{four, hex_of}
 use Rattle.hf_store.specs.Store.{Item, ItemStore}
-use Rattle.hf_store.specs.WorkedStores.{heic, plain, essential, four_by_four, references}
+use Rattle.hf_worked.specs.WorkedStores.{heic, plain, essential, four_by_four, references}
 
 -- a hidden text with a name of two words, of the size of a picture
 abbrev pub text : Item

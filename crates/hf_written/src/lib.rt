@@ -1,4 +1,4 @@
-//! Tests of the writer: worked stores are built of rows, and written to exactly their files.
+//! Tests of stores and of the writer: a store is changed, and worked stores are built of rows, and written to exactly their files.
 #![tactic(auto)]
 
 mod making;
@@ -8,6 +8,8 @@ mod writing;
 pub use making::build;
 pub use writing::is_written;
 
+#[cfg(test)]
+mod changes;
 #[cfg(test)]
 mod derived;
 #[cfg(test)]

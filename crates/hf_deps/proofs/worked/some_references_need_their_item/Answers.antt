@@ -1,7 +1,7 @@
 use Rattle.std.proofs.Common.{[], ◌∷◌, refl, inl, inr}
 use Rattle.hf_box.specs.Literals.{hex_of}
-use Rattle.hf_store.specs.WorkedChanges.{needed_by_three}
-use Rattle.hf_store.specs.WorkedStores.{plain, references}
+use Rattle.hf_worked.specs.WorkedChanges.{needed_by_three}
+use Rattle.hf_worked.specs.WorkedStores.{plain, references}
 use Rattle.hf_deps.proofs.worked.some_references_need_their_item.Goals as goal
 
 pub returns-clause-least : goal.returns-clause-least

@@ -1,7 +1,7 @@
 use Rattle.std.proofs.Common.{refl}
-use Rattle.hf_store.specs.BadStores.{primary_of_none}
-use Rattle.hf_store.specs.WorkedChanges.{described_pair, pair_shown}
-use Rattle.hf_store.specs.WorkedStores.{photograph}
+use Rattle.hf_worked.specs.BadStores.{primary_of_none}
+use Rattle.hf_worked.specs.WorkedChanges.{described_pair, pair_shown}
+use Rattle.hf_worked.specs.WorkedStores.{photograph}
 use Rattle.hf_edit.specs.Worked.{hidden_metadata}
 use Rattle.hf_edit.proofs.worked.items_are_hidden_and_shown.Goals as goal
 

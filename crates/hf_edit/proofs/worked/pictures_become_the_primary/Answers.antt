@@ -1,6 +1,6 @@
 use Rattle.std.proofs.Common.{refl}
-use Rattle.hf_store.specs.WorkedChanges.{described_pair, pair_shown}
-use Rattle.hf_store.specs.WorkedStores.{every_feature, photograph, two_pictures}
+use Rattle.hf_worked.specs.WorkedChanges.{described_pair, pair_shown}
+use Rattle.hf_worked.specs.WorkedStores.{every_feature, photograph, two_pictures}
 use Rattle.hf_edit.specs.Worked.{hidden_metadata, second_primary}
 use Rattle.hf_edit.proofs.worked.pictures_become_the_primary.Goals as goal
 

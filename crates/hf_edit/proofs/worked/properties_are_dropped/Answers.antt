@@ -1,6 +1,6 @@
 use Rattle.std.proofs.Common.{refl}
-use Rattle.hf_store.specs.WorkedChanges.{described_pair, second_in_all}
-use Rattle.hf_store.specs.WorkedStores.{photograph}
+use Rattle.hf_worked.specs.WorkedChanges.{described_pair, second_in_all}
+use Rattle.hf_worked.specs.WorkedStores.{photograph}
 use Rattle.hf_edit.specs.Worked.{pair_unsized}
 use Rattle.hf_edit.proofs.worked.properties_are_dropped.Goals as goal
 

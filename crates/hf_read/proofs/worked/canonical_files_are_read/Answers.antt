@@ -1,8 +1,8 @@
 use Rattle.std.proofs.Common.{refl}
-use Rattle.hf_store.specs.WorkedFiles.{file_of_one_empty_item, file_of_greatest_narrow_id, file_of_least_wide_id, file_of_two_widths, file_of_turned_picture, file_of_sized_picture, file_of_identity_item, file_of_overlays, file_of_two_alternatives, file_of_picture_with_exif, file_of_picture_with_xmp, file_of_picture_with_thumbnail, file_of_every_feature, file_of_every_feature_wide}
-use Rattle.hf_store.specs.WorkedPhotograph.{file_of_photograph, file_of_photograph_redacted, file_of_photograph_bare}
-use Rattle.hf_store.specs.WorkedStores.{one_empty_item, greatest_narrow_id, least_wide_id, two_widths, turned_picture, sized_picture, identity_item, overlays, two_alternatives, picture_with_exif, picture_with_xmp, picture_with_thumbnail, every_feature, every_feature_wide, properties_127, properties_128, properties_300, photograph, photograph_redacted, photograph_bare}
-use Rattle.hf_store.specs.WorkedTables.{file_of_properties_127, file_of_properties_128, file_of_properties_300}
+use Rattle.hf_worked.specs.WorkedFiles.{file_of_one_empty_item, file_of_greatest_narrow_id, file_of_least_wide_id, file_of_two_widths, file_of_turned_picture, file_of_sized_picture, file_of_identity_item, file_of_overlays, file_of_two_alternatives, file_of_picture_with_exif, file_of_picture_with_xmp, file_of_picture_with_thumbnail, file_of_every_feature, file_of_every_feature_wide}
+use Rattle.hf_worked.specs.WorkedPhotograph.{file_of_photograph, file_of_photograph_redacted, file_of_photograph_bare}
+use Rattle.hf_worked.specs.WorkedStores.{one_empty_item, greatest_narrow_id, least_wide_id, two_widths, turned_picture, sized_picture, identity_item, overlays, two_alternatives, picture_with_exif, picture_with_xmp, picture_with_thumbnail, every_feature, every_feature_wide, properties_127, properties_128, properties_300, photograph, photograph_redacted, photograph_bare}
+use Rattle.hf_worked.specs.WorkedTables.{file_of_properties_127, file_of_properties_128, file_of_properties_300}
 use Rattle.hf_read.proofs.Opened.{reads}
 use Rattle.hf_read.proofs.worked.canonical_files_are_read.Goals as goal
 

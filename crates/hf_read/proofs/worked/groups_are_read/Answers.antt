@@ -1,7 +1,7 @@
 use Rattle.std.proofs.Common.{refl}
 use Rattle.hf_read.specs.WorkedFiles.{file_alternatives, file_tail, file_one_left, file_tail_of_less}
 use Rattle.hf_read.specs.WorkedStores.{store_tail, store_one_left}
-use Rattle.hf_store.specs.WorkedStores.{two_alternatives, two_pictures}
+use Rattle.hf_worked.specs.WorkedStores.{two_alternatives, two_pictures}
 use Rattle.hf_read.proofs.Opened.{reads}
 use Rattle.hf_read.proofs.worked.groups_are_read.Goals as goal
 

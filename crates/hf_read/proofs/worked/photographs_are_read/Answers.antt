@@ -1,6 +1,6 @@
 use Rattle.std.proofs.Common.{refl}
 use Rattle.hf_read.specs.WorkedFiles.{file_photograph, file_other_exif}
-use Rattle.hf_store.specs.WorkedStores.{photograph}
+use Rattle.hf_worked.specs.WorkedStores.{photograph}
 use Rattle.hf_read.proofs.Opened.{reads}
 use Rattle.hf_read.proofs.worked.photographs_are_read.Goals as goal
 

@@ -1,7 +1,7 @@
 use Rattle.std.proofs.Common.{refl}
 use Rattle.hf_read.specs.WorkedFiles.{file_picture, file_pictures, file_sized, file_free_behind, file_empty_idat, file_long_sizes, file_empty_item, file_hidden_text}
 use Rattle.hf_read.specs.WorkedStores.{store_empty_item, store_hidden_text}
-use Rattle.hf_store.specs.WorkedStores.{one_picture, two_pictures, sized_picture}
+use Rattle.hf_worked.specs.WorkedStores.{one_picture, two_pictures, sized_picture}
 use Rattle.hf_read.proofs.Opened.{reads}
 use Rattle.hf_read.proofs.worked.pictures_are_read.Goals as goal
 

@@ -1,7 +1,7 @@
 use Rattle.std.proofs.Common.{refl}
 use Rattle.hf_read.specs.WorkedFiles.{file_held_by_none, file_turned, file_turned_back, file_properties_127, file_properties_128, file_properties_255}
 use Rattle.hf_read.specs.WorkedStores.{store_turned_back}
-use Rattle.hf_store.specs.WorkedStores.{one_picture, turned_picture, properties_127, properties_128}
+use Rattle.hf_worked.specs.WorkedStores.{one_picture, turned_picture, properties_127, properties_128}
 use Rattle.hf_read.proofs.Opened.{reads}
 use Rattle.hf_read.proofs.worked.properties_are_read.Goals as goal
 

@@ -1,7 +1,7 @@
 use Rattle.std.proofs.Common.{refl}
 use Rattle.hf_read.specs.WorkedFiles.{file_identity, file_needing, file_to_no_item, file_exif, file_xmp, file_thumbnail}
 use Rattle.hf_read.specs.WorkedStores.{store_needing}
-use Rattle.hf_store.specs.WorkedStores.{identity_item, two_pictures, picture_with_exif, picture_with_xmp, picture_with_thumbnail}
+use Rattle.hf_worked.specs.WorkedStores.{identity_item, two_pictures, picture_with_exif, picture_with_xmp, picture_with_thumbnail}
 use Rattle.hf_read.proofs.Opened.{reads}
 use Rattle.hf_read.proofs.worked.references_are_read.Goals as goal
 

@@ -1,7 +1,7 @@
 use Rattle.std.proofs.Common.{refl}
 use Rattle.hf_read.specs.WorkedFiles.{file_wide, file_mixed, file_greatest}
 use Rattle.hf_read.specs.WorkedStores.{store_greatest}
-use Rattle.hf_store.specs.WorkedStores.{two_widths}
+use Rattle.hf_worked.specs.WorkedStores.{two_widths}
 use Rattle.hf_read.proofs.Opened.{reads}
 use Rattle.hf_read.proofs.worked.wide_ids_are_read.Goals as goal
 

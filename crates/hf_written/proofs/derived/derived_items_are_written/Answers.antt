@@ -1,7 +1,7 @@
-use Rattle.hf_store.proofs.ValidStores.{valid_overlays}
-use Rattle.hf_store.proofs.GridFiles.{valid_grids}
-use Rattle.hf_store.specs.WorkedStores.{overlays}
-use Rattle.hf_store.specs.WorkedGrids.{grids}
+use Rattle.hf_worked.proofs.ValidStores.{valid_overlays}
+use Rattle.hf_worked.proofs.GridFiles.{valid_grids}
+use Rattle.hf_worked.specs.WorkedStores.{overlays}
+use Rattle.hf_worked.specs.WorkedGrids.{grids}
 use Rattle.hf_written.proofs.Sound.{sound}
 use Rattle.hf_written.proofs.derived.derived_items_are_written.Goals as goal
 

@@ -1,5 +1,5 @@
-use Rattle.hf_store.proofs.ValidStores.{valid_every_feature, valid_every_feature_wide}
-use Rattle.hf_store.specs.WorkedStores.{every_feature, every_feature_wide}
+use Rattle.hf_worked.proofs.ValidStores.{valid_every_feature, valid_every_feature_wide}
+use Rattle.hf_worked.specs.WorkedStores.{every_feature, every_feature_wide}
 use Rattle.hf_written.proofs.Sound.{sound}
 use Rattle.hf_written.proofs.features.every_feature_is_written.Goals as goal
 

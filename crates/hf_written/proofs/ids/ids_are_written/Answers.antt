@@ -1,5 +1,5 @@
-use Rattle.hf_store.proofs.ValidStores.{valid_one_picture, valid_one_empty_item, valid_greatest_narrow_id, valid_least_wide_id, valid_two_widths}
-use Rattle.hf_store.specs.WorkedStores.{one_picture, one_empty_item, greatest_narrow_id, least_wide_id, two_widths}
+use Rattle.hf_worked.proofs.ValidStores.{valid_one_picture, valid_one_empty_item, valid_greatest_narrow_id, valid_least_wide_id, valid_two_widths}
+use Rattle.hf_worked.specs.WorkedStores.{one_picture, one_empty_item, greatest_narrow_id, least_wide_id, two_widths}
 use Rattle.hf_written.proofs.Sound.{sound}
 use Rattle.hf_written.proofs.ids.ids_are_written.Goals as goal
 

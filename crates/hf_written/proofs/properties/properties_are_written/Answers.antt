@@ -1,5 +1,5 @@
-use Rattle.hf_store.proofs.ValidStores.{valid_turned_picture, valid_sized_picture, valid_properties_127, valid_properties_128}
-use Rattle.hf_store.specs.WorkedStores.{turned_picture, sized_picture, properties_127, properties_128}
+use Rattle.hf_worked.proofs.ValidStores.{valid_turned_picture, valid_sized_picture, valid_properties_127, valid_properties_128}
+use Rattle.hf_worked.specs.WorkedStores.{turned_picture, sized_picture, properties_127, properties_128}
 use Rattle.hf_written.proofs.Sound.{sound}
 use Rattle.hf_written.proofs.properties.properties_are_written.Goals as goal
 

@@ -1,7 +1,7 @@
-use Rattle.hf_store.proofs.ValidStores.{valid_identity_item, valid_two_alternatives, valid_picture_with_exif, valid_picture_with_xmp, valid_picture_with_thumbnail}
-use Rattle.hf_store.proofs.GridFiles.{valid_identity_with_bytes}
-use Rattle.hf_store.specs.WorkedStores.{identity_item, two_alternatives, picture_with_exif, picture_with_xmp, picture_with_thumbnail}
-use Rattle.hf_store.specs.WorkedGrids.{identity_with_bytes}
+use Rattle.hf_worked.proofs.ValidStores.{valid_identity_item, valid_two_alternatives, valid_picture_with_exif, valid_picture_with_xmp, valid_picture_with_thumbnail}
+use Rattle.hf_worked.proofs.GridFiles.{valid_identity_with_bytes}
+use Rattle.hf_worked.specs.WorkedStores.{identity_item, two_alternatives, picture_with_exif, picture_with_xmp, picture_with_thumbnail}
+use Rattle.hf_worked.specs.WorkedGrids.{identity_with_bytes}
 use Rattle.hf_written.proofs.Sound.{sound}
 use Rattle.hf_written.proofs.references.references_are_written.Goals as goal
 

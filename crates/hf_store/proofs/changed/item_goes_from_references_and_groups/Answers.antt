@@ -1,9 +1,0 @@
-use Rattle.std.proofs.Common.{refl}
-use Rattle.hf_store.specs.Changes.{cut}
-use Rattle.hf_store.specs.WorkedChanges.{second_in_all, second_gone}
-use Rattle.hf_store.specs.WorkedStores.{one_picture, two_pictures}
-use Rattle.hf_store.proofs.changed.item_goes_from_references_and_groups.Goals as goal
-
-pub returns : goal.returns
-unfolding second_in_all second_gone two_pictures one_picture cut
-returns c = record { second = refl; none = refl; picture = refl; first_place = refl; next_place = refl }

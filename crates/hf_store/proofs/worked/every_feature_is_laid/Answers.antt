@@ -1,5 +1,0 @@
-use Rattle.hf_store.proofs.LaidFiles.{laid_every_feature, laid_every_feature_wide}
-use Rattle.hf_store.proofs.worked.every_feature_is_laid.Goals as goal
-
-pub returns : goal.returns
-returns c = record { narrow = laid_every_feature; wide = laid_every_feature_wide }

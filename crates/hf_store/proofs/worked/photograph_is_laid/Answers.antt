@@ -1,5 +1,0 @@
-use Rattle.hf_store.proofs.LaidFiles.{laid_photograph, laid_photograph_redacted, laid_photograph_bare}
-use Rattle.hf_store.proofs.worked.photograph_is_laid.Goals as goal
-
-pub returns : goal.returns
-returns c = record { whole = laid_photograph; redacted = laid_photograph_redacted; bare = laid_photograph_bare }

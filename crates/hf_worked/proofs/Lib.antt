@@ -1,0 +1,9 @@
+pub mod BareLengths
+pub mod GridFiles
+pub mod Holders
+pub mod KeptLimits
+pub mod LaidFiles
+pub mod LargeStores
+pub mod RefusedStores
+pub mod ValidPairs
+pub mod ValidStores

@@ -1,0 +1,11 @@
+pub mod BadStores
+pub mod LargeStores
+pub mod LimitStores
+pub mod WorkedChanges
+pub mod WorkedDerived
+pub mod WorkedFiles
+pub mod WorkedGrids
+pub mod WorkedLinks
+pub mod WorkedPhotograph
+pub mod WorkedStores
+pub mod WorkedTables
