@@ -73,7 +73,7 @@ module _ (s : ItemStore) (id k : ℕ) (here : slice_get (ids_of s.items) k ≡ S
   same_id : i.id ≡ id
   same_id = some_is (sym (id_here s.items k i at) ∙ here)
 
-  it_is : (test : Item → Bool) → item_is test id s ≡ test i
+  pub it_is : (test : Item → Bool) → item_is test id s ≡ test i
   it_is test = ap (λ (n : ℕ). item_is test n s) (sym same_id) ∙ item_here test 0 k i s.items rises at
 
   pub reshaped_at : (props : Item → List Held) → with_props k (props i) s ≡ with_item id (reshaped props) s

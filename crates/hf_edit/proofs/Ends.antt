@@ -3,6 +3,7 @@ use Rattle.std.proofs.Common.{◌≡◌, ◌≢◌, ℕ, ◌+◌, ◌-◌, ◌<�
 use Rattle.std.specs.Prelude.{◌==◌, ◌%◌, ◌&&◌, nat_lt}
 use Rattle.std.specs.Option.{option_and_then}
 use Rattle.std.proofs.Math.Seq.{take-length}
+use Rattle.std.proofs.lemmas.List.{append-nil}
 use Rattle.std.proofs.lemmas.Bool.{and_parts, cases_Bool, eq-eqb, ltb-true}
 use Rattle.std.specs.Prelude.{fold}
 use Rattle.hf_prop.specs.Views.{mirror_at, turn_by, window_at}
@@ -42,7 +43,8 @@ pub mirrored_back : (axis before : ℕ) (hs : List Held) → Some before ≡ las
 unfolding mirrored
 mirrored_back axis before hs some same =
     let both : (before == axis) ≡ true = eq-eqb before axis same in
-    ap (λ (b : Bool). cond b (all_but_last hs) (hs ++ essential (mirror_at axis) ∷ [])) (sym both)
+    append-nil (all_but_last hs)
+    ∙ ap (λ (b : Bool). cond b (all_but_last hs) (hs ++ essential (mirror_at axis) ∷ [])) (sym both)
     ∙ ap (λ (last : Option ℕ). mirrored_behind last axis hs) some
 
 pub mirrored_other : (axis before : ℕ) (hs : List Held) (p : Prop) → Some before ≡ last_axis hs → before ≢ axis → p ≡ mirror_at axis

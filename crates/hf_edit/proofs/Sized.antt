@@ -11,26 +11,22 @@ fold-none : (hs : List Held) → fold sized_by None hs ≡ None
 fold-none [] = refl
 fold-none (h ∷ hs) = fold-none hs
 
-pub unsized : (i : Item) → first_size i.props ≡ None → None ≡ picture_size_of i
-unfolding picture_size_of
-unsized i none =
-    sym (ap (option_and_then when_sides) (ap (λ (size : Option (ℕ × ℕ)). fold sized_by size i.props) none ∙ fold-none i.props))
-
-module _ (i : Item) (size : ℕ × ℕ) (k : ℕ) (so_far : fold sized_by (first_size i.props) i.props ≡ fold sized_by (Some size) (drop k i.props)) where
-  module _ (h : Held) (here : slice_get i.props k ≡ Some h) where
-    steps : fold sized_by (first_size i.props) i.props ≡ fold sized_by (sized_by (Some size) h) (drop (k + 1) i.props)
-    steps = so_far ∙ ap (fold sized_by (Some size)) (drop_here i.props k h here)
-
-    pub sized-more : (next : ℕ × ℕ) → sized_by (Some size) h ≡ Some next
-        → fold sized_by (first_size i.props) i.props ≡ fold sized_by (Some next) (drop (k + 1) i.props)
-    sized-more next is = steps ∙ ap (λ (s : Option (ℕ × ℕ)). fold sized_by s (drop (k + 1) i.props)) is
-
-    pub sized-none : sized_by (Some size) h ≡ None → None ≡ picture_size_of i
-    unfolding picture_size_of
-    sized-none none =
-        sym (ap (option_and_then when_sides)
-        (steps ∙ ap (λ (s : Option (ℕ × ℕ)). fold sized_by s (drop (k + 1) i.props)) none ∙ fold-none (drop (k + 1) i.props)))
-
-  pub sized-all : length i.props ≤ k → when_sides size ≡ picture_size_of i
+module _ (i : Item) (hs : List Held) (same : hs ≡ i.props) where
+  sized : (size : Option (ℕ × ℕ)) → fold sized_by (first_size hs) hs ≡ size → option_and_then when_sides size ≡ picture_size_of i
   unfolding picture_size_of
-  sized-all past = sym (ap (option_and_then when_sides) (so_far ∙ ap (fold sized_by (Some size)) (drop_all k i.props past)))
+  sized size is =
+      sym (ap (option_and_then when_sides) is) ∙ ap (λ (ps : List Held). option_and_then when_sides (fold sized_by (first_size ps) ps)) same
+
+  pub unsized : None ≡ first_size hs → None ≡ picture_size_of i
+  unsized none = sized None (ap (λ (size : Option (ℕ × ℕ)). fold sized_by size hs) (sym none) ∙ fold-none hs)
+
+  module _ (size : ℕ × ℕ) (k : ℕ) (so_far : fold sized_by (first_size hs) hs ≡ fold sized_by (Some size) (drop k hs)) where
+    pub sized-none : (h : Held) → slice_get hs k ≡ Some h → None ≡ sized_by (Some size) h → None ≡ picture_size_of i
+    sized-none h here none =
+        sized None
+        (so_far ∙ ap (fold sized_by (Some size)) (drop_here hs k h here)
+        ∙ ap (λ (next : Option (ℕ × ℕ)). fold sized_by next (drop (k + 1) hs)) (sym none)
+        ∙ fold-none (drop (k + 1) hs))
+
+    pub sized-all : length hs ≤ k → when_sides size ≡ picture_size_of i
+    sized-all past = sized (Some size) (so_far ∙ ap (fold sized_by (Some size)) (drop_all k hs past))

@@ -2,9 +2,12 @@
 
 ghost use Rattle.std.specs.Prelude.{◌≡◌, ◌<◌, ◌==◌, ◌||◌, ℕ, Option as option, option_map, length, nat_lt, not, slice_get, IfOk, OnOk, IfErr, None, Some};
 ghost use Rattle.std.specs.Option.{is_none};
+ghost use Rattle.std.specs.List.{list_any};
+ghost use Rattle.hf_links.specs.Kinds.{is_need};
 ghost use Rattle.hf_store.specs.Seen.{item_of};
 ghost use Rattle.hf_store.specs.Store.{Item as StatedItem, ids_of};
 ghost use Rattle.hf_store.specs.Valid.{Valid};
+ghost use Rattle.hf_store.specs.declared.item.RefList.{RefList};
 ghost use Rattle.hf_deps.specs.Needs.{needed_by as needed_by_stated};
 ghost use Rattle.hf_edit.specs.Additions.{primary_item, thumbnail_item};
 ghost use Rattle.hf_edit.specs.Edits.{◌or_else◌, named, when, why};
@@ -43,17 +46,22 @@ fn is_minor(item: &Item<'_>) -> bool
         .any(|list| is_minor_kind(list.kind))
 }
 
+/// Whether an item needs others.
+fn has_need(item: &Item<'_>) -> bool
+    ensures { result ≡ list_any (λ (r : RefList). is_need r.kind) (item_of item.now).refs }
+{
+    item.refs
+        .as_slice()
+        .iter()
+        .any(|list| is_need_kind(list.kind))
+}
+
 /// Whether an item needs others, or is a picture made of others.
 fn is_derived(item: &Item<'_>) -> bool
     ensures { result ≡ is_derived_stated (item_of item.now) }
 {
-    let needs = item
-        .refs
-        .as_slice()
-        .iter()
-        .any(|list| is_need_kind(list.kind));
     let kind = item.kind;
-    needs || kind == GRID || kind == IOVL || kind == IDEN
+    has_need(item) || kind == GRID || kind == IOVL || kind == IDEN
 }
 
 /// Whether an item has a property of a type.
@@ -78,7 +86,8 @@ fn has_essential(item: &Item<'_>, kind: FourCc) -> bool
 
 /// The primary item.
 pub(crate) fn primary_of<'b, 'a>(store: &'b Store<'a>) -> &'b Item<'a>
-    ensures { primary_item store.entry.now ≡ Some (item_of result.now) }
+    ensures item { primary_item store.entry.now ≡ Some (item_of result.now) }
+    ensures valid { Valid store.entry.now }
 {
     let i = store.position(store.primary()).unwrap();
     store.at(i)

@@ -4,6 +4,7 @@ use Rattle.hf_base.specs.declared.kinds.TheConstants.{MIME, URI}
 use Rattle.hf_box.specs.Walk.{is_kind}
 use Rattle.hf_box.specs.Written.{bit}
 use Rattle.hf_store.specs.Counts.{strings_of}
+use Rattle.hf_store.specs.Seen.{item_of}
 use Rattle.hf_store.specs.Store.{Item}
 use Rattle.hf_edit.specs.Additions.{exif_item, thumbnail_item, xmp_item}
 use Rattle.hf_edit.specs.Seen.{draft_of}
@@ -31,11 +32,11 @@ thumbnail p of id x y one other =
     ap (λ (n : ℕ). 1 + n + y) one ∙ ap (λ (n : ℕ). 1 + bit (is_kind p.kind MIME) + n) other ∙ plain (is_kind p.kind MIME) (is_kind p.kind URI)
 
 pub returns-in-Exif : goal.returns-in-Exif
-returns-in-Exif c of id = exif _ of id ∙ ap (λ (d : Draft). strings_of (draft_of d of id)) (sym c.in-Exif.is)
+returns-in-Exif c of id = exif c.in-Exif.field-0.now of id ∙ ap (λ (d : Draft). strings_of (draft_of d of id)) (sym c.in-Exif.is)
 
 pub returns-in-Xmp : goal.returns-in-Xmp
-returns-in-Xmp c of id = xmp _ of id ∙ ap (λ (d : Draft). strings_of (draft_of d of id)) (sym c.in-Xmp.is)
+returns-in-Xmp c of id = xmp c.in-Xmp.field-0.now of id ∙ ap (λ (d : Draft). strings_of (draft_of d of id)) (sym c.in-Xmp.is)
 
 pub returns-in-Thumb : goal.returns-in-Thumb
 returns-in-Thumb c of id =
-    thumbnail _ of id _ _ c.one_of.ensures c.one_of-in-Thumb.ensures ∙ ap (λ (d : Draft). strings_of (draft_of d of id)) (sym c.in-Thumb.is)
+    thumbnail (item_of c.in-Thumb.picture.now) of id _ _ c.one_of.ensures c.one_of-in-Thumb.ensures ∙ ap (λ (d : Draft). strings_of (draft_of d of id)) (sym c.in-Thumb.is)
