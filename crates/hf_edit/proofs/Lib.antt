@@ -6,6 +6,7 @@ pub mod Chains
 pub mod Coming
 pub mod Ends
 pub mod Free
+pub mod Full
 pub mod Goods
 pub mod Makes
 pub mod Members

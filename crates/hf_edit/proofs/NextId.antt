@@ -1,7 +1,7 @@
 -- The greatest id of a store, whose ids rise.
-use Rattle.std.proofs.Common.{◌≡◌, ℕ, zero, suc, ◌+◌, ◌-◌, ◌<◌, List, [], ◌∷◌, ◌++◌, length, map, refl, sym, ap, ◌∙◌, arith, cond, Bool, true, false, Option, Some, None}
+use Rattle.std.proofs.Common.{◌≡◌, ℕ, zero, suc, ◌+◌, ◌-◌, ◌<◌, List, [], ◌∷◌, ◌++◌, length, map, refl, sym, ap, ◌∙◌, arith, cond, Bool, true, false, inl, inr, Option, Some, None}
 use Rattle.std.specs.Prelude.{◌==◌, ◌^◌, SomeIff, fold, max, slice_get}
-use Rattle.std.proofs.lemmas.Bool.{eq-eqb}
+use Rattle.std.proofs.lemmas.Bool.{cases_lt, eq-eqb}
 use Rattle.std.proofs.lemmas.List.{length-map}
 use Rattle.std.proofs.lemmas.List.Sums.{fold-append}
 use Rattle.hf_store.specs.Lists.{RisesFrom, Rises}
@@ -53,9 +53,10 @@ module _ (s : ItemStore) (valid : Valid s) (i : Item) (n : ℕ) (at : slice_get 
 
 pub next_is : (s : ItemStore) (n : ℕ) (next : Option ℕ) → n ≡ greatest_id s → SomeIff next (n + 1 < 2 ^ 32) (n + 1) → n < 2 ^ 32 → next ≡ next_id_of s
 unfolding next_id_of
-next_is s n None is no small =
-    let top : (greatest_id s == 4294967295) ≡ true = eq-eqb (greatest_id s) 4294967295 (omega (arith, is, small, no)) in
+next_is s n None is over small =
+    let last : n ≡ 4294967295 = elim (cases_lt (n + 1) 4294967296) [ inl below ↦ absurd (over below) | inr past ↦ omega (arith, past, small) ] in
+    let top : (greatest_id s == 4294967295) ≡ true = eq-eqb (greatest_id s) 4294967295 (omega (arith, is, last)) in
     ap (λ (b : Bool). cond b None (Some (greatest_id s + 1))) (sym top)
-next_is s n (Some id) is yes small =
-    let below : (greatest_id s == 4294967295) ≡ false = differ (greatest_id s) 4294967295 (λ e. omega (arith, is, yes.0, e)) in
-    ap Some (yes.1 ∙ ap (λ (m : ℕ). m + 1) is) ∙ ap (λ (b : Bool). cond b None (Some (greatest_id s + 1))) (sym below)
+next_is s n (Some id) is fits small =
+    let below : (greatest_id s == 4294967295) ≡ false = differ (greatest_id s) 4294967295 (λ e. omega (arith, is, fits.0, e)) in
+    ap Some (fits.1 ∙ ap (λ (m : ℕ). m + 1) is) ∙ ap (λ (b : Bool). cond b None (Some (greatest_id s + 1))) (sym below)

@@ -7,6 +7,7 @@ ghost use Rattle.hf_pieces.specs.Bytes.{joined};
 ghost use Rattle.hf_store.specs.Counts.{counts_of_item, strings_of};
 ghost use Rattle.hf_store.specs.Layout.{in_idat as stands_in_idat};
 ghost use Rattle.hf_store.specs.Seen.{item_of};
+ghost use Rattle.hf_store.specs.Valid.{IsFour};
 ghost use Rattle.hf_edit.specs.Additions.{greatest_id as greatest_id_stated, next_id_of, one_reference as one_reference_stated};
 ghost use Rattle.hf_edit.specs.Seen.{draft_of};
 
@@ -65,7 +66,8 @@ fn bit(is_set: bool) -> u64
 
 /// 1 for a type that is the other one.
 fn one_of(kind: FourCc, other: FourCc) -> u64
-    ensures { result ≡ stated_bit (is_kind kind other) }
+    ensures bit { result ≡ stated_bit (is_kind kind other) }
+    ensures four { IsFour kind }
 {
     if kind == other { 1 } else { 0 }
 }
@@ -95,7 +97,8 @@ impl<'b, 'a> Draft<'b, 'a> {
 
     /// The bytes of the strings of the item's `infe`, with the zero bytes that end them.
     fn strings(&self) -> u64
-        ensures { (of id : ℕ) → result ≡ strings_of (draft_of self.now of id) }
+        ensures bytes { (of id : ℕ) → result ≡ strings_of (draft_of self.now of id) }
+        ensures four { (of id : ℕ) → IsFour (draft_of self.now of id).kind }
     {
         match self {
             Draft::Exif(_) => 1,
@@ -116,7 +119,8 @@ impl<'b, 'a> Draft<'b, 'a> {
 
     /// What is counted of the item, given its id.
     pub(crate) fn counts(&self, id: u32) -> Counts
-        ensures { (of : ℕ) → result ≡ counts_of_item (draft_of self.now of id) }
+        ensures value { (of : ℕ) → result ≡ counts_of_item (draft_of self.now of id) }
+        ensures four { (of : ℕ) → IsFour (draft_of self.now of id).kind }
     {
         let len = self.len();
         let props = self.props().len() as u64;

@@ -24,7 +24,8 @@ fn against_props<'a>(
     ensures { result ≡ why_not_held i (props_with kept more.now i store.now) store.now }
 {
     let left = kept.min(store.at(i).props.len());
-    if left + more.len() > PROPS {
+    let most = PROPS - more.len();
+    if left > most {
         return Some(Reason::PropsFull);
     }
     if store.kinds_with(i, kept, more) > KINDS {
