@@ -20,6 +20,9 @@ pub record IsFree (s : ItemStore) (e : Edit) : Type 0 where
   pub shown : takes_primary s e ≡ false
   pub unneeded : needer s e ≡ None
   pub whole : takes_derived e ≡ false
+  pub inside : crops_outside s e ≡ false
+  pub turn : turns_wrongly e ≡ false
+  pub axis : mirrors_wrongly e ≡ false
   pub props : fills_props s e ≡ false
   pub kinds : fills_kinds s e ≡ false
   pub items : fills_items s e ≡ false
@@ -53,6 +56,9 @@ is_free s e none =
       shown = shown.0;
       unneeded = unneeded.0;
       whole = whole.0;
+      inside = inside.0;
+      turn = turn.0;
+      axis = axis.0;
       props = props.0;
       kinds = kinds.0;
       items = items.0;

@@ -31,16 +31,16 @@ is_somewhere s id e =
 
 -- ---- the item with the id
 
-or-false : (b : Bool) → (b || false) ≡ b
+pub or-false : (b : Bool) → (b || false) ≡ b
 or-false true = refl
 or-false false = refl
 
-above : (low k id : ℕ) (is : List Item) → RisesFrom ◌<◌ low (ids_of is) → slice_get (ids_of is) k ≡ Some id → low < id
+pub above : (low k id : ℕ) (is : List Item) → RisesFrom ◌<◌ low (ids_of is) → slice_get (ids_of is) k ≡ Some id → low < id
 above low k id [] rises here = absurd cc
 above low zero id (i ∷ is) rises here = let same : i.id ≡ id = some_is here in omega (arith, rises.0, same)
 above low (suc k) id (i ∷ is) rises here = omega (arith, rises.0, above i.id k id is rises.1 here)
 
-none_later : (test : Item → Bool) (id low : ℕ) (is : List Item) → id ≤ low → RisesFrom ◌<◌ low (ids_of is)
+pub none_later : (test : Item → Bool) (id low : ℕ) (is : List Item) → id ≤ low → RisesFrom ◌<◌ low (ids_of is)
     → list_any (λ (i : Item). (i.id == id) && test i) is ≡ false
 none_later test id low [] le rises = refl
 none_later test id low (i ∷ is) le rises =

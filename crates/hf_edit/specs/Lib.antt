@@ -4,6 +4,7 @@ pub mod Faults
 pub mod Left
 pub mod PictureSize
 pub mod Pictures
+pub mod Room
 pub mod Seen
 pub mod Worked
 pub mod WorkedLimits

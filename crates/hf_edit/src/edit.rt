@@ -3,9 +3,9 @@
 ghost use Rattle.std.specs.Prelude.{◌≡◌};
 ghost use Rattle.hf_edit.specs.Edits.{named};
 ghost use Rattle.hf_edit.specs.Seen.{edit_of};
-ghost use Rattle.hf_edit.specs.declared.edit.EditFault.TheVariants.{Refused as refused};
+ghost use Rattle.hf_edit.specs.declared.edit.EditFault.TheVariants.{NoMemory as no_memory, Refused as refused};
 
-use hf_base::FourCc;
+use hf_base::{FourCc, NoMemory};
 use hf_store::{Reason, Store};
 
 /// An edit of a store. Each names an item by its id.
@@ -105,5 +105,13 @@ impl From<Reason> for EditFault {
 
     fn from(reason: Reason) -> EditFault {
         EditFault::Refused(reason)
+    }
+}
+
+impl From<NoMemory> for EditFault {
+    ghost from_gives = { λ _ fault. fault ≡ no_memory };
+
+    fn from(_e: NoMemory) -> EditFault {
+        EditFault::NoMemory
     }
 }
