@@ -150,10 +150,20 @@ xmp_full count text many =
 abbrev copy : ℕ → Item
 copy count = thumbnail_item (plain 1 "hvc1" (0xaa ∷ 0xbb ∷ 0xcc ∷ [])) 1 (next count)
 
--- against a thumbnail of this picture, up to what is told of kinds
-thumb_items : (count : ℕ) (donor : ItemStore) (answer : Option Reason) → primary_is is_metadata donor ≡ false → takes_derived (Thumb 1 donor) ≡ false
-    → (when (fills_kinds (crowd count) (Thumb 1 donor)) reasons.KindsFull or_else when (fills_items (crowd count) (Thumb 1 donor)) reasons.ItemsFull or_else when (fills_ids (crowd count) (Thumb 1 donor)) reasons.IdsFull or_else when (fills_body (crowd count) (Thumb 1 donor)) reasons.BodyFull or_else when (fills_meta (crowd count) (Thumb 1 donor)) reasons.MetaFull or_else None) ≡ answer
-    → why (crowd count) (Thumb 1 donor) ≡ answer
+-- what is told of an edit from the distinct properties on
+abbrev from_kinds : ItemStore → Edit → Option Reason
+from_kinds s e =
+    when (fills_kinds s e) reasons.KindsFull
+    or_else when (fills_items s e) reasons.ItemsFull
+    or_else when (fills_ids s e) reasons.IdsFull
+    or_else when (fills_body s e) reasons.BodyFull
+    or_else when (fills_meta s e) reasons.MetaFull
+    or_else None
+
+-- of a thumbnail that needs no other item that is all
+thumb_items : (count : ℕ) (donor : ItemStore) (answer : Option Reason)
+    → primary_is is_metadata donor ≡ false → takes_derived (Thumb 1 donor) ≡ false
+    → from_kinds (crowd count) (Thumb 1 donor) ≡ answer → why (crowd count) (Thumb 1 donor) ≡ answer
 thumb_items count donor answer picture whole e =
     let metadata : pictures_metadata (crowd count) (Thumb 1 donor) ≡ false = rw (others_differ is_metadata count refl, picture) refl in
     passed (names_none (crowd count) (Thumb 1 donor)) reasons.NoItem _ _ (is_named count)
@@ -253,9 +263,10 @@ unfolding named named_with rotated
 turned_len name n len few = named_len name n len few
 
 pub meta_fits : MetaFits
-meta_fits =
-    (λ name few. le-ltb 1073741824 _ (omega (arith, few, mirrored_len name (length name) refl (omega (arith, few)))),
-      λ name few. le-ltb 1073741824 _ (omega (arith, few, turned_len name (length name) refl (omega (arith, few)))))
+meta_fits = (
+  λ name few. le-ltb 1073741824 _ (omega (arith, few, mirrored_len name (length name) refl (omega (arith, few)))),
+  λ name few. le-ltb 1073741824 _ (omega (arith, few, turned_len name (length name) refl (omega (arith, few)))),
+)
 
 mirrored_full : (name : List ℕ) → 1073741682 < length name → length name < 2 ^ 31 → why (named_with (imir "00") name) (Mirror 1 0) ≡ Some reasons.MetaFull
 unfolding named_with mirrored table_of
