@@ -20,7 +20,7 @@ use Rattle.hf_worked.proofs.LargeStores.{named_len}
 use Rattle.hf_worked.proofs.Holders.{kind, holders-table, holders-distinct}
 use Rattle.std.proofs.lemmas.List.FromFn.{length-map-range_with_len}
 use Rattle.hf_edit.specs.Additions.{exif_item, greatest_id, next_id_of, thumbnail_item, xmp_item}
-use Rattle.hf_edit.specs.Edits.{AddExif, AddXmp, Mirror, Rotate, Thumb, fills_body, fills_ids, fills_items, fills_kinds, fills_meta, is_absent, item_is, is_metadata, is_minor, names_none, pictures_metadata, primary_is, raises_minor, step, takes_derived, when, ◌or_else◌, why}
+use Rattle.hf_edit.specs.Edits.{Edit, AddExif, AddXmp, Mirror, Rotate, Thumb, fills_body, fills_ids, fills_items, fills_kinds, fills_meta, is_absent, item_is, is_metadata, is_minor, names_none, pictures_metadata, primary_is, raises_minor, step, takes_derived, when, ◌or_else◌, why}
 use Rattle.hf_edit.specs.Pictures.{mirrored, rotated}
 use Rattle.hf_edit.specs.Worked.{greatest_beside, imir, irot}
 use Rattle.hf_edit.specs.WorkedLimits.{crowd, full_beside, holder_beside, named_picture, named_with, BodyBeforeMeta, BodyFits, BodyIsFull, IdsBeforeBody, ItemsFit, ItemsAreFull, KindsAreFull, KindsBeforeItems, KindsFit, MetaFits, MetaIsFull, PropsBeforeKinds}
@@ -72,13 +72,17 @@ kinds_fit = (
 thumb_full : (count : ℕ) → 32767 < count → why one_picture (Thumb 1 (holders 0 0 count)) ≡ Some reasons.KindsFull
 unfolding one_picture holders
 thumb_full count many =
-    let full : fills_kinds one_picture (Thumb 1 (holders 0 0 count)) ≡ true = lt-ltb 32767 _ (omega (arith, many, thumb_kinds count, holders-distinct 0 0 count)) in
+    let full : fills_kinds one_picture (Thumb 1 (holders 0 0 count)) ≡ true =
+    lt-ltb 32767 _ (omega (arith, many, thumb_kinds count, holders-distinct 0 0 count))
+    in
     told (fills_kinds one_picture (Thumb 1 (holders 0 0 count))) reasons.KindsFull _ full
 
 beside_full : (count : ℕ) → 32767 < count → why greatest_beside (Thumb 1 (holders 0 0 count)) ≡ Some reasons.KindsFull
 unfolding greatest_beside holders
 beside_full count many =
-    let full : fills_kinds greatest_beside (Thumb 1 (holders 0 0 count)) ≡ true = lt-ltb 32767 _ (omega (arith, many, beside_kinds count, holders-distinct 0 0 count)) in
+    let full : fills_kinds greatest_beside (Thumb 1 (holders 0 0 count)) ≡ true =
+    lt-ltb 32767 _ (omega (arith, many, beside_kinds count, holders-distinct 0 0 count))
+    in
     told (fills_kinds greatest_beside (Thumb 1 (holders 0 0 count))) reasons.KindsFull _ full
 
 turned_full : (count : ℕ) → 32767 ≤ count → why (holder_beside count) (Rotate 2 1) ≡ Some reasons.KindsFull
@@ -233,7 +237,8 @@ xmp_body_full bytes text many =
     let full : fills_body (picture_of bytes) (AddXmp 1 text) ≡ true = lt-ltb 1099511627776 _ (omega (arith, many, xmp_body bytes text)) in
     told (fills_body (picture_of bytes) (AddXmp 1 text)) reasons.BodyFull _ full
 
-thumb_body_full : (bytes more : List ℕ) → 1099511627776 < length bytes + length more → why (picture_of bytes) (Thumb 1 (picture_of more)) ≡ Some reasons.BodyFull
+thumb_body_full : (bytes more : List ℕ) → 1099511627776 < length bytes + length more
+    → why (picture_of bytes) (Thumb 1 (picture_of more)) ≡ Some reasons.BodyFull
 unfolding picture_of table_of next_id_of
 thumb_body_full bytes more many =
     let full : fills_body (picture_of bytes) (Thumb 1 (picture_of more)) ≡ true = lt-ltb 1099511627776 _ (omega (arith, many, thumb_body bytes more)) in
@@ -271,13 +276,17 @@ meta_fits = (
 mirrored_full : (name : List ℕ) → 1073741682 < length name → length name < 2 ^ 31 → why (named_with (imir "00") name) (Mirror 1 0) ≡ Some reasons.MetaFull
 unfolding named_with mirrored table_of
 mirrored_full name many few =
-    let full : fills_meta (named_with (imir "00") name) (Mirror 1 0) ≡ true = lt-ltb 1073741824 _ (omega (arith, many, mirrored_len name (length name) refl few)) in
+    let full : fills_meta (named_with (imir "00") name) (Mirror 1 0) ≡ true =
+    lt-ltb 1073741824 _ (omega (arith, many, mirrored_len name (length name) refl few))
+    in
     told (fills_meta (named_with (imir "00") name) (Mirror 1 0)) reasons.MetaFull _ full
 
 turned_meta_full : (name : List ℕ) → 1073741682 < length name → length name < 2 ^ 31 → why (named_with (irot "03") name) (Rotate 1 1) ≡ Some reasons.MetaFull
 unfolding named_with rotated table_of
 turned_meta_full name many few =
-    let full : fills_meta (named_with (irot "03") name) (Rotate 1 1) ≡ true = lt-ltb 1073741824 _ (omega (arith, many, turned_len name (length name) refl few)) in
+    let full : fills_meta (named_with (irot "03") name) (Rotate 1 1) ≡ true =
+    lt-ltb 1073741824 _ (omega (arith, many, turned_len name (length name) refl few))
+    in
     told (fills_meta (named_with (irot "03") name) (Rotate 1 1)) reasons.MetaFull _ full
 
 pub meta_is_full : MetaIsFull
