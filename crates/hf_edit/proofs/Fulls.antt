@@ -187,7 +187,11 @@ unfolding one_picture
 thumb_items_fit count few = items_left count (copy count) few
 
 pub items_fit : ItemsFit
-items_fit = (λ count tiff few. items_left count (exif_item tiff 1 (next count)) few, λ count text few. items_left count (xmp_item text 1 (next count)) few, thumb_items_fit)
+items_fit = (
+  λ count tiff few. items_left count (exif_item tiff 1 (next count)) few,
+  λ count text few. items_left count (xmp_item text 1 (next count)) few,
+  thumb_items_fit,
+)
 
 pub items_are_full : ItemsAreFull
 items_are_full = (exif_full, xmp_full, thumb_items_full)
