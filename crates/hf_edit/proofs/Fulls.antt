@@ -20,7 +20,7 @@ use Rattle.hf_worked.proofs.LargeStores.{named_len}
 use Rattle.hf_worked.proofs.Holders.{kind, holders-table, holders-distinct}
 use Rattle.std.proofs.lemmas.List.FromFn.{length-map-range_with_len}
 use Rattle.hf_edit.specs.Additions.{exif_item, greatest_id, next_id_of, thumbnail_item, xmp_item}
-use Rattle.hf_edit.specs.Edits.{AddExif, AddXmp, Mirror, Rotate, Thumb, fills_body, fills_ids, fills_items, fills_kinds, fills_meta, is_absent, item_is, is_metadata, is_minor, names_none, pictures_metadata, primary_is, raises_minor, step, takes_derived, when, ◌or_else◌, why}
+use Rattle.hf_edit.specs.Edits.{Edit, AddExif, AddXmp, Mirror, Rotate, Thumb, fills_body, fills_ids, fills_items, fills_kinds, fills_meta, is_absent, item_is, is_metadata, is_minor, names_none, pictures_metadata, primary_is, raises_minor, step, takes_derived, when, ◌or_else◌, why}
 use Rattle.hf_edit.specs.Pictures.{mirrored, rotated}
 use Rattle.hf_edit.specs.Worked.{greatest_beside, imir, irot}
 use Rattle.hf_edit.specs.WorkedLimits.{crowd, full_beside, holder_beside, named_picture, named_with, BodyBeforeMeta, BodyFits, BodyIsFull, IdsBeforeBody, ItemsFit, ItemsAreFull, KindsAreFull, KindsBeforeItems, KindsFit, MetaFits, MetaIsFull, PropsBeforeKinds}
@@ -72,13 +72,17 @@ kinds_fit = (
 thumb_full : (count : ℕ) → 32767 < count → why one_picture (Thumb 1 (holders 0 0 count)) ≡ Some reasons.KindsFull
 unfolding one_picture holders
 thumb_full count many =
-    let full : fills_kinds one_picture (Thumb 1 (holders 0 0 count)) ≡ true = lt-ltb 32767 _ (omega (arith, many, thumb_kinds count, holders-distinct 0 0 count)) in
+    let full : fills_kinds one_picture (Thumb 1 (holders 0 0 count)) ≡ true =
+    lt-ltb 32767 _ (omega (arith, many, thumb_kinds count, holders-distinct 0 0 count))
+    in
     told (fills_kinds one_picture (Thumb 1 (holders 0 0 count))) reasons.KindsFull _ full
 
 beside_full : (count : ℕ) → 32767 < count → why greatest_beside (Thumb 1 (holders 0 0 count)) ≡ Some reasons.KindsFull
 unfolding greatest_beside holders
 beside_full count many =
-    let full : fills_kinds greatest_beside (Thumb 1 (holders 0 0 count)) ≡ true = lt-ltb 32767 _ (omega (arith, many, beside_kinds count, holders-distinct 0 0 count)) in
+    let full : fills_kinds greatest_beside (Thumb 1 (holders 0 0 count)) ≡ true =
+    lt-ltb 32767 _ (omega (arith, many, beside_kinds count, holders-distinct 0 0 count))
+    in
     told (fills_kinds greatest_beside (Thumb 1 (holders 0 0 count))) reasons.KindsFull _ full
 
 turned_full : (count : ℕ) → 32767 ≤ count → why (holder_beside count) (Rotate 2 1) ≡ Some reasons.KindsFull
@@ -150,10 +154,20 @@ xmp_full count text many =
 abbrev copy : ℕ → Item
 copy count = thumbnail_item (plain 1 "hvc1" (0xaa ∷ 0xbb ∷ 0xcc ∷ [])) 1 (next count)
 
--- against a thumbnail of this picture, up to what is told of kinds
-thumb_items : (count : ℕ) (donor : ItemStore) (answer : Option Reason) → primary_is is_metadata donor ≡ false → takes_derived (Thumb 1 donor) ≡ false
-    → (when (fills_kinds (crowd count) (Thumb 1 donor)) reasons.KindsFull or_else when (fills_items (crowd count) (Thumb 1 donor)) reasons.ItemsFull or_else when (fills_ids (crowd count) (Thumb 1 donor)) reasons.IdsFull or_else when (fills_body (crowd count) (Thumb 1 donor)) reasons.BodyFull or_else when (fills_meta (crowd count) (Thumb 1 donor)) reasons.MetaFull or_else None) ≡ answer
-    → why (crowd count) (Thumb 1 donor) ≡ answer
+-- what is told of an edit from the distinct properties on
+abbrev from_kinds : ItemStore → Edit → Option Reason
+from_kinds s e =
+    when (fills_kinds s e) reasons.KindsFull
+    or_else when (fills_items s e) reasons.ItemsFull
+    or_else when (fills_ids s e) reasons.IdsFull
+    or_else when (fills_body s e) reasons.BodyFull
+    or_else when (fills_meta s e) reasons.MetaFull
+    or_else None
+
+-- of a thumbnail that needs no other item that is all
+thumb_items : (count : ℕ) (donor : ItemStore) (answer : Option Reason)
+    → primary_is is_metadata donor ≡ false → takes_derived (Thumb 1 donor) ≡ false
+    → from_kinds (crowd count) (Thumb 1 donor) ≡ answer → why (crowd count) (Thumb 1 donor) ≡ answer
 thumb_items count donor answer picture whole e =
     let metadata : pictures_metadata (crowd count) (Thumb 1 donor) ≡ false = rw (others_differ is_metadata count refl, picture) refl in
     passed (names_none (crowd count) (Thumb 1 donor)) reasons.NoItem _ _ (is_named count)
@@ -173,7 +187,11 @@ unfolding one_picture
 thumb_items_fit count few = items_left count (copy count) few
 
 pub items_fit : ItemsFit
-items_fit = (λ count tiff few. items_left count (exif_item tiff 1 (next count)) few, λ count text few. items_left count (xmp_item text 1 (next count)) few, thumb_items_fit)
+items_fit = (
+  λ count tiff few. items_left count (exif_item tiff 1 (next count)) few,
+  λ count text few. items_left count (xmp_item text 1 (next count)) few,
+  thumb_items_fit,
+)
 
 pub items_are_full : ItemsAreFull
 items_are_full = (exif_full, xmp_full, thumb_items_full)
@@ -223,7 +241,8 @@ xmp_body_full bytes text many =
     let full : fills_body (picture_of bytes) (AddXmp 1 text) ≡ true = lt-ltb 1099511627776 _ (omega (arith, many, xmp_body bytes text)) in
     told (fills_body (picture_of bytes) (AddXmp 1 text)) reasons.BodyFull _ full
 
-thumb_body_full : (bytes more : List ℕ) → 1099511627776 < length bytes + length more → why (picture_of bytes) (Thumb 1 (picture_of more)) ≡ Some reasons.BodyFull
+thumb_body_full : (bytes more : List ℕ) → 1099511627776 < length bytes + length more
+    → why (picture_of bytes) (Thumb 1 (picture_of more)) ≡ Some reasons.BodyFull
 unfolding picture_of table_of next_id_of
 thumb_body_full bytes more many =
     let full : fills_body (picture_of bytes) (Thumb 1 (picture_of more)) ≡ true = lt-ltb 1099511627776 _ (omega (arith, many, thumb_body bytes more)) in
@@ -253,20 +272,25 @@ unfolding named named_with rotated
 turned_len name n len few = named_len name n len few
 
 pub meta_fits : MetaFits
-meta_fits =
-    (λ name few. le-ltb 1073741824 _ (omega (arith, few, mirrored_len name (length name) refl (omega (arith, few)))),
-      λ name few. le-ltb 1073741824 _ (omega (arith, few, turned_len name (length name) refl (omega (arith, few)))))
+meta_fits = (
+  λ name few. le-ltb 1073741824 _ (omega (arith, few, mirrored_len name (length name) refl (omega (arith, few)))),
+  λ name few. le-ltb 1073741824 _ (omega (arith, few, turned_len name (length name) refl (omega (arith, few)))),
+)
 
 mirrored_full : (name : List ℕ) → 1073741682 < length name → length name < 2 ^ 31 → why (named_with (imir "00") name) (Mirror 1 0) ≡ Some reasons.MetaFull
 unfolding named_with mirrored table_of
 mirrored_full name many few =
-    let full : fills_meta (named_with (imir "00") name) (Mirror 1 0) ≡ true = lt-ltb 1073741824 _ (omega (arith, many, mirrored_len name (length name) refl few)) in
+    let full : fills_meta (named_with (imir "00") name) (Mirror 1 0) ≡ true =
+    lt-ltb 1073741824 _ (omega (arith, many, mirrored_len name (length name) refl few))
+    in
     told (fills_meta (named_with (imir "00") name) (Mirror 1 0)) reasons.MetaFull _ full
 
 turned_meta_full : (name : List ℕ) → 1073741682 < length name → length name < 2 ^ 31 → why (named_with (irot "03") name) (Rotate 1 1) ≡ Some reasons.MetaFull
 unfolding named_with rotated table_of
 turned_meta_full name many few =
-    let full : fills_meta (named_with (irot "03") name) (Rotate 1 1) ≡ true = lt-ltb 1073741824 _ (omega (arith, many, turned_len name (length name) refl few)) in
+    let full : fills_meta (named_with (irot "03") name) (Rotate 1 1) ≡ true =
+    lt-ltb 1073741824 _ (omega (arith, many, turned_len name (length name) refl few))
+    in
     told (fills_meta (named_with (irot "03") name) (Rotate 1 1)) reasons.MetaFull _ full
 
 pub meta_is_full : MetaIsFull
