@@ -37,7 +37,8 @@ done_whole command old new files Missing d due is both = absurd due
 done_whole command old new files (Long n) d due is both = let o = ap (λ (d : Due). d.outcome) due in absurd cc
 done_whole command old new files Whole d due is both = (refl, (d, due, is, both.0, both.1))
 
-module _ (command : Command) (input : List ℕ) (ss : List Source) (reads : sources_of command ≡ (0, input) ∷ ss) (old new : Outside) (P : Option Files → List ℕ → Type 0)
+module _ (command : Command) (input : List ℕ) (ss : List Source) (reads : sources_of command ≡ (0, input) ∷ ss) (old new : Outside) (P : Option Files
+    → List ℕ → Type 0)
     (each : (files : Files) (file : List ℕ) → bytes_in (Some files) input ≡ file → read_of (Some files) (sources_of command) ≡ Whole
     → WasDone command old new (Some files) → P (Some files) file) where
   done_in : (fs : Option Files) → WhereTold fs (sources_of command) (Answers (IsDue (Ok command) fs) Done old new)
@@ -63,7 +64,8 @@ done_of_store Is bytes file d same (inr (s, opened, due)) done = (s, subst (λ (
 pub list_done : (input : List ℕ) (old new : Outside) → Ends (ListFile input) Done old new
     → IfTold old input (λ file. (s : ItemStore) × IsOpened file s × IsUnmade old new × Said old (listing_text s) new)
 list_done input old new =
-    done_told (ListFile input) input [] refl old new (λ (fs : Option Files) (file : List ℕ). (s : ItemStore) × IsOpened file s × IsUnmade old new × Said old (listing_text s) new)
+    done_told (ListFile input) input [] refl old new (λ (fs : Option Files) (file : List ℕ). (s : ItemStore) × IsOpened file s × IsUnmade old new
+    × Said old (listing_text s) new)
     (λ files file same whole was.
     let of = done_of_store IsDueOfList (bytes_in (Some files) input) file was.0 same was.1 was.2 in
     (of.0, of.1, subst (λ (d : Due). MadeDue d.makes old new) of.2 was.3, subst (λ (d : Due). Said old d.says new) of.2 was.4))
@@ -71,7 +73,8 @@ list_done input old new =
 abbrev CheckSaid : List ℕ → ItemStore → Outside → Outside → Type 0
 CheckSaid file s old new = (Canon s file × Said old (check_text true) new) ⊎ ((Canon s file → ⊥) × Said old (check_text false) new)
 
-check_said : (bytes file : List ℕ) (s : ItemStore) (d : Due) (old new : Outside) → bytes ≡ file → IsDueOfCheck bytes s d → MadeDue d.makes old new → Said old d.says new
+check_said : (bytes file : List ℕ) (s : ItemStore) (d : Due) (old new : Outside) → bytes ≡ file → IsDueOfCheck bytes s d → MadeDue d.makes old new
+    → Said old d.says new
     → IsUnmade old new × CheckSaid file s old new
 check_said bytes file s d old new same (inl (is, e)) makes says =
     (subst (λ (d : Due). MadeDue d.makes old new) e makes, inl (subst (Canon s) same is, subst (λ (d : Due). Said old d.says new) e says))
@@ -81,7 +84,8 @@ check_said bytes file s d old new same (inr (not, e)) makes says =
 pub check_done : (input : List ℕ) (old new : Outside) → Ends (CheckFile input) Done old new
     → IfTold old input (λ file. (s : ItemStore) × IsOpened file s × IsUnmade old new × CheckSaid file s old new)
 check_done input old new =
-    done_told (CheckFile input) input [] refl old new (λ (fs : Option Files) (file : List ℕ). (s : ItemStore) × IsOpened file s × IsUnmade old new × CheckSaid file s old new)
+    done_told (CheckFile input) input [] refl old new (λ (fs : Option Files) (file : List ℕ). (s : ItemStore) × IsOpened file s × IsUnmade old new
+    × CheckSaid file s old new)
     (λ files file same whole was.
     let bytes = bytes_in (Some files) input in
     let of = done_of_store (IsDueOfCheck bytes) bytes file was.0 same was.1 was.2 in
@@ -91,14 +95,16 @@ check_done input old new =
 abbrev ItemMade : ItemStore → ℕ → List ℕ → Outside → Outside → Type 0
 ItemMade s id out old new = (i : Item) × IsIn i s.items × (i.id ≡ id) × IsMade old out i.bytes new
 
-item_made : (id : ℕ) (out : List ℕ) (s : ItemStore) (d : Due) (old new : Outside) → IsDueOfExtract id out s d → d.outcome ≡ Done → MadeDue d.makes old new → ItemMade s id out old new
+item_made : (id : ℕ) (out : List ℕ) (s : ItemStore) (d : Due) (old new : Outside) → IsDueOfExtract id out s d → d.outcome ≡ Done → MadeDue d.makes old new
+    → ItemMade s id out old new
 item_made id out s d old new (inl (none, e)) done makes = let o = ap (λ (d : Due). d.outcome) e in absurd cc
 item_made id out s d old new (inr (i, there, is, e)) done makes = (i, there, is, subst (λ (d : Due). MadeDue d.makes old new) e makes)
 
 pub extract_done : (input : List ℕ) (id : ℕ) (out : List ℕ) (old new : Outside) → Ends (Extract input id out) Done old new
     → IfTold old input (λ file. (s : ItemStore) × IsOpened file s × ItemMade s id out old new)
 extract_done input id out old new =
-    done_told (Extract input id out) input [] refl old new (λ (fs : Option Files) (file : List ℕ). (s : ItemStore) × IsOpened file s × ItemMade s id out old new)
+    done_told (Extract input id out) input [] refl old new (λ (fs : Option Files) (file : List ℕ). (s : ItemStore) × IsOpened file s
+    × ItemMade s id out old new)
     (λ files file same whole was.
     let of = done_of_store (IsDueOfExtract id out) (bytes_in (Some files) input) file was.0 same was.1 was.2 in
     (of.0, of.1, item_made id out of.0 was.0 old new of.2 was.2 was.3))
@@ -108,8 +114,12 @@ edits_made : (file out : List ℕ) (edits : List EditWord) (files : Option Files
     → (bytes : List ℕ) × IsEdited file (map (sourced files) edits) bytes × IsMade old out bytes new
 edits_made file out edits files s d old new opened (inl (n, fault, is, e)) done makes = let o = ap (λ (d : Due). d.outcome) e in absurd cc
 edits_made file out edits files s d old new opened (inr (inl (n, reason, is, e))) done makes = let o = ap (λ (d : Due). d.outcome) e in absurd cc
-edits_made file out edits files s d old new opened (inr (inr (after, accepted, (bytes, canonical, again, e)))) done makes =
-    (bytes, record { store = s; opened = opened; after = after; accepted = accepted; canonical = canonical; again = again }, subst (λ (d : Due). MadeDue d.makes old new) e makes)
+edits_made file out edits files s d old new opened (inr (inr (after, accepted, (bytes, canonical, again, e)))) done makes = (
+  bytes,
+  record { store = s; opened = opened; after = after; accepted = accepted; canonical = canonical; again = again },
+  subst (λ
+      (d : Due). MadeDue d.makes old new) e makes,
+)
 
 pub edit_done : (input out : List ℕ) (edits : List EditWord) (old new : Outside) → Ends (EditFile input out edits) Done old new
     → IfTold old input (λ file. (bytes : List ℕ) × (read_of old.files (sources_of (EditFile input out edits)) ≡ Whole)
@@ -126,7 +136,8 @@ edit_done input out edits old new =
 pub redact_done : (input out : List ℕ) (bare : Bool) (old new : Outside) → Ends (Redact input out bare) Done old new
     → IfTold old input (λ file. (bytes : List ℕ) × IsRedacted file bare bytes × IsMade old out bytes new)
 redact_done input out bare old new =
-    done_told (Redact input out bare) input [] refl old new (λ (fs : Option Files) (file : List ℕ). (bytes : List ℕ) × IsRedacted file bare bytes × IsMade old out bytes new)
+    done_told (Redact input out bare) input [] refl old new (λ (fs : Option Files) (file : List ℕ). (bytes : List ℕ) × IsRedacted file bare bytes
+    × IsMade old out bytes new)
     (λ files file same whole was.
     let of = done_of_store (IsDueOfRedact bare out) (bytes_in (Some files) input) file was.0 same was.1 was.2 in
     let due = of.2 in

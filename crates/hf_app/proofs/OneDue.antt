@@ -122,13 +122,15 @@ module _ (s : ItemStore) (ws : List Sourced) where
       let goes = accepted.steps in
       absurd cc
 
-  refusal_in : (n m : ℕ) (reason other : Reason) → n ≤ m → AreRefused s ws n reason → AreRefused s ws m other → answered (Refused n reason) ≡ answered (Refused m other)
+  refusal_in : (n m : ℕ) (reason other : Reason) → n ≤ m → AreRefused s ws n reason → AreRefused s ws m other
+      → answered (Refused n reason) ≡ answered (Refused m other)
   refusal_in n m reason other le a b =
       let stops = sym (refused_front n m reason b.meant le a b.are_meant) ∙ b.steps in
       let same : (n, reason) ≡ (m, other) = cc in
       ap (λ (p : ℕ × Reason). answered (Refused p.0 p.1)) same
 
-  one_refusal : (n m : ℕ) (reason other : Reason) → AreRefused s ws n reason → AreRefused s ws m other → answered (Refused n reason) ≡ answered (Refused m other)
+  one_refusal : (n m : ℕ) (reason other : Reason) → AreRefused s ws n reason → AreRefused s ws m other
+      → answered (Refused n reason) ≡ answered (Refused m other)
   one_refusal n m reason other a b = elim (cases_lt m n) [
     | inl less ↦ sym (refusal_in m n other reason (omega (arith, less)) b a)
     | inr le ↦ refusal_in n m reason other le a b
@@ -177,7 +179,8 @@ module _ (s : ItemStore) (ws : List Sourced) where
 
   pub one_after : (after other : ItemStore) → AreAccepted s ws after → AreAccepted s ws other → after ≡ other
   one_after after other a b =
-      let both : Ok after ≡ Ok other = sym a.steps ∙ ap (λ (es : List Edit). stepped 1 s es) (same_meant ws a.meant b.meant a.are_meant b.are_meant) ∙ b.steps in
+      let both : Ok after ≡ Ok other = sym a.steps ∙ ap (λ (es : List Edit). stepped 1 s es) (same_meant ws a.meant b.meant a.are_meant b.are_meant)
+      ∙ b.steps in
       cc
 
 -- ---- each thing that is due of a store
@@ -244,11 +247,14 @@ one_of_file Is one file a b (inr (s, opened, due)) (inr (t, also, more)) =
 one_of : (command : Command) (files : Option Files) (a b : Due) → IsDueOf command files a → IsDueOf command files b → a ≡ b
 one_of (Boxes input) files a b x y = x ∙ sym y
 one_of (ListFile input) files a b x y = one_of_file IsDueOfList (λ s valid a b x y. x ∙ sym y) (bytes_in files input) a b x y
-one_of (CheckFile input) files a b x y = one_of_file (IsDueOfCheck (bytes_in files input)) (λ s valid a b x y. one_check (bytes_in files input) s a b x y) (bytes_in files input) a b x y
+one_of (CheckFile input) files a b x y = one_of_file (IsDueOfCheck (bytes_in files input)) (λ s valid a b x y. one_check (bytes_in files input) s a b x y)
+    (bytes_in files input) a b x y
 one_of (Extract input id out) files a b x y = one_of_file (IsDueOfExtract id out) (one_extract id out) (bytes_in files input) a b x y
 one_of (EditFile input out edits) files a b x y =
-    one_of_file (IsDueOfEdits (map (sourced files) edits) out) (λ s valid a b x y. one_of_edits (map (sourced files) edits) out s a b x y) (bytes_in files input) a b x y
-one_of (Redact input out bare) files a b x y = one_of_file (IsDueOfRedact bare out) (λ s valid a b x y. one_canon_due out _ a b x y) (bytes_in files input) a b x y
+    one_of_file (IsDueOfEdits (map (sourced files) edits) out) (λ s valid a b x y. one_of_edits (map (sourced files) edits) out s a b x y)
+    (bytes_in files input) a b x y
+one_of (Redact input out bare) files a b x y = one_of_file (IsDueOfRedact bare out) (λ s valid a b x y. one_canon_due out _ a b x y)
+    (bytes_in files input) a b x y
 one_of (Trial seed n out) files a b x y = x ∙ sym y
 
 one_of_read : (command : Command) (files : Option Files) (r : Readable) (a b : Due) → IsDueOfRead command files r a → IsDueOfRead command files r b → a ≡ b

@@ -119,10 +119,19 @@ module _ (out : List ℕ) (s : ItemStore) (edits : List Sourced) (good : (i : �
       → (e : Edit) → IsMeant w.0 w.1 e → IsGoodEdit e → ((new : ItemStore) → Valid new → AreAccepted s (take (i + 1) edits) new → SomeDue)
       → (o : Option Reason) → why mid e ≡ o → SomeDue
   by_reason i mid valid before less w is_there e is fine next None none =
-      next (step mid e) (steps_keep_validity mid e valid fine none) (one_more s mid edits i w less is_there before (i + 1) refl w.1 refl (step mid e) (e, is, none, refl))
+      next (step mid e) (steps_keep_validity mid e valid fine none) (one_more s mid edits i w less is_there before (i + 1) refl w.1 refl (step mid e)
+      (e, is, none, refl))
   by_reason i mid valid before less w is_there e is fine next (Some reason) some = (
     answered (Refused (i + 1) reason),
-    inr (inl (i + 1, reason, one_stops s mid edits i w less is_there before (i + 1) refl w.1 refl (stops.Refused (i + 1) reason) mid mid (refl, (e, is, some)), refl)),
+    inr (inl (
+      i + 1,
+      reason,
+      one_stops s mid edits i w less is_there before (i + 1) refl w.1 refl (stops.Refused (i + 1) reason) mid mid (
+        refl,
+        (e, is, some),
+      ),
+      refl,
+    )),
   )
 
   -- what comes behind the edits before a place, which are accepted
@@ -139,7 +148,13 @@ module _ (out : List ℕ) (s : ItemStore) (edits : List Sourced) (good : (i : �
       elim (meaning w.0 w.1 (good i w there)) [
         | inl unfit ↦ (
           answered (Unfit (i + 1) unfit.0),
-          inl (i + 1, unfit.0, one_stops s mid edits i w less is_there before (i + 1) refl w.1 refl (stops.Unfit (i + 1) unfit.0) mid mid (refl, unfit.1), refl),
+          inl (
+            i + 1,
+            unfit.0,
+            one_stops s mid edits i w less is_there before (i + 1) refl w.1 refl (stops.Unfit (i + 1) unfit.0) mid mid
+                (refl, unfit.1),
+            refl,
+          ),
         )
         | inr meant ↦ by_reason i mid valid before less w is_there meant.0 meant.1 meant.2
             (λ new also more. walk left (i + 1) new (omega (arith, all)) also more) (why mid meant.0) refl
@@ -150,7 +165,8 @@ module _ (out : List ℕ) (s : ItemStore) (edits : List Sourced) (good : (i : �
 
 -- ---- the files that are read
 
-due_of_file : (Is : ItemStore → Due → Type 0) → ((s : ItemStore) → Valid s → (d : Due) × Is s d) → (bytes : List ℕ) → IsGood bytes → (d : Due) × IsDueOfFile Is bytes d
+due_of_file : (Is : ItemStore → Due → Type 0) → ((s : ItemStore) → Valid s → (d : Due) × Is s d) → (bytes : List ℕ) → IsGood bytes → (d : Due)
+    × IsDueOfFile Is bytes d
 due_of_file Is each bytes good =
     elim (opened_or bytes good) [
       | inl fault ↦ (answered (Unfit 0 fault.0), inl (fault.0, fault.1, refl))
@@ -177,7 +193,8 @@ small_of n (Some file) is = elim (cases_lt FILE (length file)) [
   | inr few ↦ few
 ]
 
-bytes_in_file : (told : Files) (name : List ℕ) → ((file : List ℕ) → file_of told name ≡ Some file → IsBytes file) → (f : Option (List ℕ)) → file_of told name ≡ f → IsBytes (bytes_of f)
+bytes_in_file : (told : Files) (name : List ℕ) → ((file : List ℕ) → file_of told name ≡ Some file → IsBytes file) → (f : Option (List ℕ))
+    → file_of told name ≡ f → IsBytes (bytes_of f)
 bytes_in_file told name each None is = no_bytes
 bytes_in_file told name each (Some file) is = each file is
 
@@ -206,7 +223,8 @@ module _ (files : Option Files) (bytes : (told : Files) (name file : List ℕ) �
   good_content n (words.Show id) whole = good_nothing
   good_content n (words.Drop id kind) whole = good_nothing
 
-  good_contents : (ws : List EditWord) (n : ℕ) → read_of files (sources_from n ws) ≡ Whole → (i : ℕ) (w : Sourced) → slice_get (map (sourced files) ws) i ≡ Some w → IsGood w.1
+  good_contents : (ws : List EditWord) (n : ℕ) → read_of files (sources_from n ws) ≡ Whole → (i : ℕ) (w : Sourced)
+      → slice_get (map (sourced files) ws) i ≡ Some w → IsGood w.1
   good_contents [] n whole i w there = absurd cc
   good_contents (v ∷ vs) n whole zero w there =
       let parts = sym (read_of-append files (source_of n v) (sources_from (n + 1) vs)) ∙ whole in
@@ -219,8 +237,10 @@ module _ (files : Option Files) (bytes : (told : Files) (name file : List ℕ) �
   due_of : (command : Command) → read_of files (sources_of command) ≡ Whole → (d : Due) × IsDueOf command files d
   due_of (Boxes input) whole = (due_of_rows (walk_at (bytes_in files input)), refl)
   due_of (ListFile input) whole = due_of_file IsDueOfList (λ s valid. (said (listing_text s), refl)) (bytes_in files input) (good_first 0 input Whole whole)
-  due_of (CheckFile input) whole = due_of_file (IsDueOfCheck (bytes_in files input)) (check_due (bytes_in files input)) (bytes_in files input) (good_first 0 input Whole whole)
-  due_of (Extract input id out) whole = due_of_file (IsDueOfExtract id out) (λ s valid. extract_due id out s) (bytes_in files input) (good_first 0 input Whole whole)
+  due_of (CheckFile input) whole = due_of_file (IsDueOfCheck (bytes_in files input)) (check_due (bytes_in files input)) (bytes_in files input)
+      (good_first 0 input Whole whole)
+  due_of (Extract input id out) whole = due_of_file (IsDueOfExtract id out) (λ s valid. extract_due id out s) (bytes_in files input)
+      (good_first 0 input Whole whole)
   due_of (EditFile input out edits) whole =
       let rest = read_of files (sources_from 1 edits) in
       let first = readable 0 (file_in files input) in
@@ -228,7 +248,8 @@ module _ (files : Option Files) (bytes : (told : Files) (name file : List ℕ) �
       (λ s valid. edits_due out s (map (sourced files) edits) (good_contents edits 1 (rest_whole first rest whole)) valid)
       (bytes_in files input) (good_first 0 input rest whole)
   due_of (Redact input out bare) whole =
-      due_of_file (IsDueOfRedact bare out) (λ s valid. canon_due out (redacted bare s) (redaction_keeps_validity s bare valid)) (bytes_in files input) (good_first 0 input Whole whole)
+      due_of_file (IsDueOfRedact bare out) (λ s valid. canon_due out (redacted bare s) (redaction_keeps_validity s bare valid)) (bytes_in files input)
+      (good_first 0 input Whole whole)
   due_of (Trial seed n out) whole = (answered NoMemory, refl)
 
   due_of_read : (command : Command) (r : Readable) → read_of files (sources_of command) ≡ r → IsReadable r → (d : Due) × IsDueOfRead command files r d
