@@ -1,15 +1,15 @@
 -- The reasons against edits that add an item or give it other properties, by the item that is named.
-use Rattle.std.proofs.Common.{◌≡◌, ℕ, zero, suc, ◌<◌, ◌≤◌, Bool, true, false, ◌&&◌, ◌||◌, List, [], ◌∷◌, length, map, refl, sym, ap, ◌∙◌, subst, arith, inl, inr, Option, Some, None, eqb-true}
+use Rattle.std.proofs.Common.{◌≡◌, ℕ, zero, suc, ◌<◌, Bool, true, false, ◌&&◌, ◌||◌, List, [], ◌∷◌, length, refl, sym, ap, ◌∙◌, subst, arith, inl, inr, Option, Some, None, eqb-true}
 use Rattle.std.specs.Prelude.{◌==◌, nat_lt, slice_get}
 use Rattle.std.specs.List.{list_any}
 use Rattle.std.specs.Option.{is_none}
-use Rattle.std.proofs.lemmas.Bool.{cases_Bool, eq-eqb, ltb-false}
+use Rattle.std.proofs.lemmas.Bool.{cases_Bool, eq-eqb}
 use Rattle.hf_base.specs.declared.limits.TheConstants as limits
 use Rattle.hf_store.specs.Changes.{changed_at, holding, with_props}
 use Rattle.hf_store.specs.Lists.{RisesFrom}
 use Rattle.hf_store.specs.Store.{Held, Item, ItemStore, ids_of}
 use Rattle.hf_store.specs.Table.{table_of}
-use Rattle.hf_store.specs.Valid.{body_sum, meta_len, Valid}
+use Rattle.hf_store.specs.Valid.{body_sum, meta_len}
 use Rattle.hf_store.specs.declared.reason.Reason.{Reason}
 use Rattle.hf_store.specs.declared.reason.Reason.TheVariants as reasons
 use Rattle.hf_store.proofs.Spots.{id_here, some_is}
@@ -97,7 +97,8 @@ module _ (s : ItemStore) (id k : ℕ) (here : slice_get (ids_of s.items) k ≡ S
   -- ---- the edits that give it other properties
 
   pub why_turning : (quarters : ℕ) → why s (Rotate id quarters)
-      ≡ (when (is_metadata i) reasons.NotImage or_else when ((quarters == 0) || nat_lt 3 quarters) reasons.BadTurn or_else why_not_held k (rotated quarters i.props) s)
+      ≡ (when (is_metadata i) reasons.NotImage or_else when ((quarters == 0) || nat_lt 3 quarters) reasons.BadTurn
+      or_else why_not_held k (rotated quarters i.props) s)
   why_turning quarters =
       let told : Bool → Option Reason → Option Reason =
       λ metadata rest. when metadata reasons.NotImage or_else when ((quarters == 0) || nat_lt 3 quarters) reasons.BadTurn or_else rest
@@ -121,7 +122,8 @@ module _ (s : ItemStore) (id k : ℕ) (here : slice_get (ids_of s.items) k ≡ S
       or_else when (is_outside x y w h (picture_size_of i)) reasons.OutsidePicture or_else why_not_held k (cropped x y w h i) s)
   why_cropping x y w h =
       let told : Bool → Bool → Bool → Option Reason → Option Reason =
-      λ metadata unsized outside rest. when metadata reasons.NotImage or_else when unsized reasons.NoSize or_else when outside reasons.OutsidePicture or_else rest
+      λ metadata unsized outside rest. when metadata reasons.NotImage or_else when unsized reasons.NoSize
+      or_else when outside reasons.OutsidePicture or_else rest
       in
       let t = step s (Crop id x y w h) in
       let unsized : Item → Bool = λ j. is_none (picture_size_of j) in

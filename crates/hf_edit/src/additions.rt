@@ -15,7 +15,7 @@ use hf_base::kinds::{CDSC, EXIF, MIME, THMB, URI};
 use hf_base::{FourCc, Ids, NoMemory, Series};
 use hf_pieces::Pieces;
 use hf_prop::Held;
-use hf_store::{Counts, Item, Props, RefList, Refs, Store, in_idat};
+use hf_store::{Counts, Item, RefList, Refs, Store, in_idat};
 use std::alloc::Global;
 
 /// What stands before the bytes of Exif metadata: they begin with their header (ISO/IEC 23008-12, annex A).

@@ -15,7 +15,7 @@ use crate::additions::{Draft, next_id};
 use crate::changing::{Change, cropping, mirroring, rotation};
 use crate::edit::{Edit, EditFault};
 use crate::reasons::{place_of, primary_of};
-use hf_base::{NoMemory, Series, TryClone};
+use hf_base::{NoMemory, Series};
 use hf_prop::Held;
 use hf_store::{Props, Reason, Store};
 use std::alloc::Global;
@@ -75,12 +75,7 @@ fn add<'a>(
 
 /// Makes an edit of the item at a place, against which there is no reason. After `NoMemory` the store is
 /// as before.
-fn make<'a>(
-    alloc: Global,
-    store: &mut Store<'a>,
-    i: usize,
-    edit: &Edit<'a>,
-) -> Result<(), NoMemory>
+fn make<'a>(alloc: Global, store: &mut Store<'a>, i: usize, edit: &Edit<'a>) -> Result<(), NoMemory>
     requires place { slice_get (ids_of store.old.items) i ≡ Some (named (edit_of edit.now)) }
     requires valid { Valid store.old }
     requires free { why store.old (edit_of edit.now) ≡ None }
@@ -116,11 +111,7 @@ fn make<'a>(
 /// Makes an edit, where nothing speaks against it. `Refused` has the first reason against it, in the
 /// order of `Reason`. `NoMemory` comes where memory was refused, and only of an edit that adds an item,
 /// turns, mirrors or crops. After a fault the store is as before.
-pub fn apply<'a>(
-    alloc: Global,
-    store: &mut Store<'a>,
-    edit: &Edit<'a>,
-) -> Result<(), EditFault>
+pub fn apply<'a>(alloc: Global, store: &mut Store<'a>, edit: &Edit<'a>) -> Result<(), EditFault>
     ensures free { OnOk result (why store.old (edit_of edit.now) ≡ None) }
     ensures made { OnOk result (store.new ≡ step store.old (edit_of edit.now)) }
     ensures fault { IfErr result (λ fault. IsFault store.old (edit_of edit.now) fault) }

@@ -1,7 +1,6 @@
 //! Other properties at the end of an item's list. None of these calls takes memory.
 
 ghost use Rattle.std.specs.Prelude.{◌≡◌, ◌<◌, ◌≤◌, false, length, IfSome};
-ghost use Rattle.hf_prop.specs.Views.{turn_by};
 ghost use Rattle.hf_store.specs.Seen.{item_of};
 ghost use Rattle.hf_edit.specs.Pictures.{cropped, is_outside, last_axis as last_axis_stated, last_turn as last_turn_stated, mirrored, picture_size_of, rotated, turn_unless_none as turn_unless_none_stated};
 ghost use Rattle.hf_edit.specs.Seen.{changed_by, more_of};

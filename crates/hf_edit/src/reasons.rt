@@ -1,6 +1,6 @@
 //! The reasons against an edit, in their order.
 
-ghost use Rattle.std.specs.Prelude.{◌≡◌, ◌<◌, ◌==◌, ◌||◌, ℕ, Option as option, option_map, length, nat_lt, not, slice_get, IfOk, OnOk, IfErr, None, Some};
+ghost use Rattle.std.specs.Prelude.{◌≡◌, ◌<◌, ◌==◌, ◌||◌, ℕ, option_map, length, nat_lt, not, slice_get, IfOk, OnOk, IfErr, None, Some};
 ghost use Rattle.std.specs.Option.{is_none};
 ghost use Rattle.std.specs.List.{list_any};
 ghost use Rattle.hf_links.specs.Kinds.{is_need};
@@ -106,11 +106,7 @@ fn against_removal(store: &Store<'_>, id: u32) -> Option<Reason>
 }
 
 /// The first reason why metadata of an item does not come.
-fn against_metadata<'a>(
-    store: &Store<'a>,
-    item: &Item<'a>,
-    draft: &Draft<'_, 'a>,
-) -> Option<Reason>
+fn against_metadata<'a>(store: &Store<'a>, item: &Item<'a>, draft: &Draft<'_, 'a>) -> Option<Reason>
     ensures { (of : ℕ) → result ≡ (when (is_metadata_stated (item_of item.now)) Reason.NotImage or_else why_not_added (draft_of draft.now of) store.now) }
 {
     if is_metadata(item) {
@@ -120,11 +116,7 @@ fn against_metadata<'a>(
 }
 
 /// The first reason why a thumbnail of an item does not come, which is a picture of another store.
-fn against_thumbnail<'a>(
-    store: &Store<'a>,
-    item: &Item<'a>,
-    picture: &Item<'a>,
-) -> Option<Reason>
+fn against_thumbnail<'a>(store: &Store<'a>, item: &Item<'a>, picture: &Item<'a>) -> Option<Reason>
     ensures { let i = item_of item.now in let p = item_of picture.now in
         (of : ℕ) → result ≡ (when (is_metadata_stated i || is_metadata_stated p) Reason.NotImage or_else when (is_minor_stated i) Reason.IsMinor or_else when (is_derived_stated p) Reason.DonorDerived or_else why_not_added (thumbnail_item p of) store.now) }
 {

@@ -1,7 +1,7 @@
 //! The reasons against changes that make a store fuller. They speak of the store after the change, which is never made
 //! for it.
 
-ghost use Rattle.std.specs.Prelude.{◌≡◌, ◌<◌, ◌≤◌, ℕ, length};
+ghost use Rattle.std.specs.Prelude.{◌≡◌, ◌<◌, ℕ, length};
 ghost use Rattle.hf_store.specs.Room.{props_at, props_with};
 ghost use Rattle.hf_edit.specs.Room.{why_not_added, why_not_held};
 ghost use Rattle.hf_edit.specs.Seen.{changed_by, draft_of};
@@ -13,12 +13,7 @@ use hf_prop::Held;
 use hf_store::{Reason, Store};
 
 /// The first reason against these properties behind the first `kept` ones of the item at a place.
-fn against_props<'a>(
-    store: &Store<'a>,
-    i: usize,
-    kept: usize,
-    more: &[Held<'a>],
-) -> Option<Reason>
+fn against_props<'a>(store: &Store<'a>, i: usize, kept: usize, more: &[Held<'a>]) -> Option<Reason>
     requires place { i < length store.now.items }
     requires few { length more.now < 2 }
     ensures { result ≡ why_not_held i (props_with kept more.now i store.now) store.now }
@@ -38,11 +33,7 @@ fn against_props<'a>(
 }
 
 /// The first reason against a change of the properties of the item at a place.
-pub(crate) fn against_change<'a>(
-    store: &Store<'a>,
-    i: usize,
-    change: &Change<'a>,
-) -> Option<Reason>
+pub(crate) fn against_change<'a>(store: &Store<'a>, i: usize, change: &Change<'a>) -> Option<Reason>
     requires { i < length store.now.items }
     ensures { result ≡ why_not_held i (changed_by change.now (props_at i store.now.items)) store.now }
 {

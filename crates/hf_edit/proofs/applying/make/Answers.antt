@@ -1,7 +1,6 @@
-use Rattle.std.proofs.Common.{◌≡◌, refl, sym, ap, ◌∙◌, subst, Some}
+use Rattle.std.proofs.Common.{sym, ap, ◌∙◌}
 use Rattle.hf_store.specs.Seen.{item_of}
-use Rattle.hf_store.specs.Store.{Item, ids_of}
-use Rattle.hf_edit.specs.Additions.{primary_item, thumbnail_item, with_next}
+use Rattle.hf_store.specs.Store.{ids_of}
 use Rattle.hf_edit.specs.Edits.{AddExif, AddXmp, Crop, Mirror, Primary, Rotate, Thumb, named, with_thumbnail}
 use Rattle.hf_edit.specs.Seen.{edit_of}
 use Rattle.hf_edit.proofs.Arms.{free_in, place_in, step_in}
@@ -92,8 +91,8 @@ reshape-requires-clause-valid c =
     let free = free_in s c.args.edit.now _ c.in-Rotate.is c.requires.free in
     let i = item_of c.at.result.now in
     let is =
-    turned_at s c.in-Rotate.id c.args.i c.requires.valid here i c.at.ensures c.rotation-change.result c.as_slice.result.now c.in-Rotate.quarters c.as_slice.ensures
-    c.rotation-change.ensures.changed
+    turned_at s c.in-Rotate.id c.args.i c.requires.valid here i c.at.ensures c.rotation-change.result c.as_slice.result.now c.in-Rotate.quarters
+    c.as_slice.ensures c.rotation-change.ensures.changed
     in
     valid_made s (Rotate c.in-Rotate.id c.in-Rotate.quarters) _ c.requires.valid tt free is
 
@@ -103,8 +102,8 @@ returns-in_ok-reshape-in-Rotate-clause-made c =
     let here = place_in s c.args.edit.now _ c.in-Rotate.is (ids_of s.items) c.args.i c.requires.place in
     let i = item_of c.at.result.now in
     let is =
-    turned_at s c.in-Rotate.id c.args.i c.requires.valid here i c.at.ensures c.rotation-change.result c.as_slice.result.now c.in-Rotate.quarters c.as_slice.ensures
-    c.rotation-change.ensures.changed
+    turned_at s c.in-Rotate.id c.args.i c.requires.valid here i c.at.ensures c.rotation-change.result c.as_slice.result.now c.in-Rotate.quarters
+    c.as_slice.ensures c.rotation-change.ensures.changed
     in
     step_in s c.args.edit.now _ c.in-Rotate.is c.reshape.new.store (c.in_ok-reshape-in-Rotate.ensures.set ∙ is)
 
@@ -115,8 +114,8 @@ reshape-requires-in-Mirror-clause-valid c =
     let free = free_in s c.args.edit.now _ c.in-Mirror.is c.requires.free in
     let i = item_of c.at-in-Mirror.result.now in
     let is =
-    mirrored_at s c.in-Mirror.id c.args.i c.requires.valid here i c.at-in-Mirror.ensures c.mirroring-change.result c.as_slice-in-Mirror.result.now c.in-Mirror.axis
-    c.as_slice-in-Mirror.ensures c.mirroring-change.ensures.changed
+    mirrored_at s c.in-Mirror.id c.args.i c.requires.valid here i c.at-in-Mirror.ensures c.mirroring-change.result c.as_slice-in-Mirror.result.now
+    c.in-Mirror.axis c.as_slice-in-Mirror.ensures c.mirroring-change.ensures.changed
     in
     valid_made s (Mirror c.in-Mirror.id c.in-Mirror.axis) _ c.requires.valid tt free is
 
@@ -126,8 +125,8 @@ returns-in_ok-reshape-in-Mirror-clause-made c =
     let here = place_in s c.args.edit.now _ c.in-Mirror.is (ids_of s.items) c.args.i c.requires.place in
     let i = item_of c.at-in-Mirror.result.now in
     let is =
-    mirrored_at s c.in-Mirror.id c.args.i c.requires.valid here i c.at-in-Mirror.ensures c.mirroring-change.result c.as_slice-in-Mirror.result.now c.in-Mirror.axis
-    c.as_slice-in-Mirror.ensures c.mirroring-change.ensures.changed
+    mirrored_at s c.in-Mirror.id c.args.i c.requires.valid here i c.at-in-Mirror.ensures c.mirroring-change.result c.as_slice-in-Mirror.result.now
+    c.in-Mirror.axis c.as_slice-in-Mirror.ensures c.mirroring-change.ensures.changed
     in
     step_in s c.args.edit.now _ c.in-Mirror.is c.reshape-in-Mirror.new.store (c.in_ok-reshape-in-Mirror.ensures.set ∙ is)
 
@@ -194,7 +193,8 @@ pub returns-in-Show-clause-made : goal.returns-in-Show-clause-made
 returns-in-Show-clause-made c =
     let s = c.args.store.now in
     let here = place_in s c.args.edit.now _ c.in-Show.is (ids_of s.items) c.args.i c.requires.place in
-    step_in s c.args.edit.now _ c.in-Show.is c.set_hidden-in-Show.new.self (c.set_hidden-in-Show.ensures ∙ hidden_at s c.in-Show.id c.args.i c.requires.valid here _)
+    step_in s c.args.edit.now _ c.in-Show.is c.set_hidden-in-Show.new.self
+    (c.set_hidden-in-Show.ensures ∙ hidden_at s c.in-Show.id c.args.i c.requires.valid here _)
 
 pub returns-in-Drop-clause-made : goal.returns-in-Drop-clause-made
 returns-in-Drop-clause-made c =

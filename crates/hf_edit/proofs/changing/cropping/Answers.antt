@@ -1,7 +1,6 @@
-use Rattle.std.proofs.Common.{◌≡◌, ◌+◌, List, length, ◌++◌, take, ◌∙◌, sym, ap, Some}
+use Rattle.std.proofs.Common.{◌∙◌, sym, ap, Some}
 use Rattle.hf_store.specs.Seen.{item_of}
 use Rattle.hf_edit.specs.Seen.{changed_by}
-use Rattle.hf_edit.specs.declared.changing.Change.{Change}
 use Rattle.hf_edit.proofs.Ends.{cropped_once, sides_are_small}
 use Rattle.hf_edit.proofs.changing.cropping.Goals as goal
 

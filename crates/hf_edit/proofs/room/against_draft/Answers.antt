@@ -1,10 +1,10 @@
-use Rattle.std.proofs.Common.{◌≡◌, ℕ, ◌+◌, ◌<◌, ◌≤◌, length, refl, sym, ap, ◌∙◌, arith, Some}
+use Rattle.std.proofs.Common.{◌≡◌, ℕ, ◌+◌, ◌<◌, ◌≤◌, length, refl, sym, ap, ◌∙◌, arith}
 use Rattle.std.specs.Prelude.{nat_le}
 use Rattle.hf_base.specs.declared.limits.TheConstants as limits
 use Rattle.hf_store.specs.Store.{Item, ItemStore}
 use Rattle.hf_store.specs.Table.{table_of}
 use Rattle.hf_store.specs.Valid.{body_sum, meta_len}
-use Rattle.hf_edit.specs.Additions.{greatest_id, next_id_of, with_next}
+use Rattle.hf_edit.specs.Additions.{greatest_id, with_next}
 use Rattle.hf_edit.specs.Seen.{draft_of}
 use Rattle.hf_edit.proofs.Full.{body_full, body_sum-added, four_refs, length-added, meta_full_added, room_left_added}
 use Rattle.hf_edit.proofs.Makes.{added_next}

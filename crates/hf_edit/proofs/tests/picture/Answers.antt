@@ -2,6 +2,7 @@ use Rattle.std.proofs.Common.{◌≡◌, List, [], ◌∷◌, ◌++◌, ap, sym,
 use Rattle.hf_base.specs.declared.limits.TheConstants as limits
 use Rattle.hf_box.specs.Literals.{hex_of}
 use Rattle.hf_head.specs.Ftyp.{Brands}
+use Rattle.hf_links.specs.Grpl.{groups_of}
 use Rattle.hf_store.specs.Seen.{item_of, items_of}
 use Rattle.hf_store.specs.Store.{Group, Item as Stated, ItemStore}
 use Rattle.hf_store.specs.Valid.{Valid}
@@ -22,6 +23,6 @@ picture_is brands items none first groups b e n same g =
 pub build-requires : goal.build-requires
 build-requires c =
     let same = picture_is _ c.push.new.self c.new-items.result c.in_ok-sized.field-0 _ c.heic.ensures c.in_ok-push.ensures.pushed c.new-items.ensures
-    c.in_ok-sized.ensures c.new.ensures
+    c.in_ok-sized.ensures (ap groups_of c.new.ensures)
     in
     (limits.ITEMS, limits.LINKS, limits.META, subst Valid (sym same) valid_sized_picture)

@@ -13,7 +13,8 @@ use Rattle.hf_edit.specs.declared.additions.Draft.{Draft}
 use Rattle.hf_edit.proofs.additions.Draft.strings.Goals as goal
 
 -- an item that has only the strings that its type asks for
-plain : (mime uri : Bool) → 1 + bit mime + bit uri ≡ length ([] ++ num 0 1) + length (cond mime (([] ++ num 0 1) ++ []) []) + length (cond uri ([] ++ num 0 1) [])
+plain : (mime uri : Bool)
+    → 1 + bit mime + bit uri ≡ length ([] ++ num 0 1) + length (cond mime (([] ++ num 0 1) ++ []) []) + length (cond uri ([] ++ num 0 1) [])
 unfolding num
 plain true true = refl
 plain true false = refl
@@ -40,7 +41,8 @@ returns-in-Xmp-clause-bytes c of id = xmp c.in-Xmp.field-0.now of id ∙ ap (λ 
 
 pub returns-in-Thumb-clause-bytes : goal.returns-in-Thumb-clause-bytes
 returns-in-Thumb-clause-bytes c of id =
-    thumbnail (item_of c.in-Thumb.picture.now) of id _ _ c.one_of.ensures.bit c.one_of-in-Thumb.ensures.bit ∙ ap (λ (d : Draft). strings_of (draft_of d of id)) (sym c.in-Thumb.is)
+    thumbnail (item_of c.in-Thumb.picture.now) of id _ _ c.one_of.ensures.bit c.one_of-in-Thumb.ensures.bit
+    ∙ ap (λ (d : Draft). strings_of (draft_of d of id)) (sym c.in-Thumb.is)
 
 pub returns-in-Thumb-clause-four : goal.returns-in-Thumb-clause-four
 returns-in-Thumb-clause-four c of id = subst (λ (d : Draft). IsFour (draft_of d of id).kind) (sym c.in-Thumb.is) c.one_of.ensures.four
