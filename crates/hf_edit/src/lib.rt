@@ -15,6 +15,3 @@ pub use additions::next_id;
 pub use applying::{apply, refusal};
 pub use edit::{Edit, EditFault};
 pub use pictures::picture_size;
-
-#[cfg(test)]
-mod tests;

@@ -5,6 +5,8 @@
 #[cfg(test)]
 mod added;
 #[cfg(test)]
+mod applied;
+#[cfg(test)]
 mod large;
 #[cfg(test)]
 mod making;

@@ -6,9 +6,9 @@ ghost use Rattle.hf_head.specs.Ftyp.{brands_of};
 ghost use Rattle.hf_store.specs.Seen.{item_of};
 ghost use Rattle.hf_worked.specs.WorkedStores.{four_by_four, heic as stated_heic, plain};
 
-use super::*;
 use hf_base::kinds::{CLAP, EXIF, HEIC, HVC1, IMIR, IROT, ISPE, MIME};
 use hf_base::{FourCc, NoMemory, OpenFault, Series};
+use hf_edit::{Edit, apply};
 use hf_head::Brands;
 use hf_pieces::Pieces;
 use hf_prop::{Body, Held, Prop};

@@ -9,7 +9,7 @@ use Rattle.hf_store.specs.Valid.{Valid}
 use Rattle.hf_store.specs.declared.item.Item.{Item}
 use Rattle.hf_worked.specs.WorkedStores.{four_by_four, heic, plain, sized_picture}
 use Rattle.hf_worked.proofs.ValidStores.{valid_sized_picture}
-use Rattle.hf_edit.proofs.tests.picture.Goals as goal
+use Rattle.hf_vectors.proofs.applied.picture.Goals as goal
 
 picture_is : (brands : Brands) (items none : List Item) (first : Item) (groups : List Group) → brands ≡ heic → items ≡ none ++ first ∷ [] → none ≡ []
     → item_of first ≡ record (plain 1 "hvc1" (hex_of "aabbcc")) { props = four_by_four ∷ [] } → groups ≡ []
