@@ -20,3 +20,4 @@ bench: all
 	bench/boxes
 	bench/list
 	bench/edit
+	bench/redact

@@ -30,6 +30,11 @@ def references_of(ids):
     return box(b"iref", full(0) + b"".join(box(b"cdsc", u16(i) + u16(1) + u16(1)) for i in ids if i != 1))
 
 
+def chain_of(ids):
+    """`iref`: each item but the last one needs the next one."""
+    return box(b"iref", full(0) + b"".join(box(b"prem", u16(i) + u16(1) + u16(i + 1)) for i in ids if i != len(ids)))
+
+
 def properties_of(ids, kinds):
     """`iprp`: so many distinct properties, and two of them for each item."""
     if kinds == 0:
@@ -39,9 +44,10 @@ def properties_of(ids, kinds):
     return box(b"iprp", box(b"ipco", boxes) + box(b"ipma", full(0, 1) + u32(len(ids)) + rows))
 
 
-def write(name, sizes, kinds=0, linked=False, extents=1):
+def write(name, sizes, kinds=0, linked=False, extents=1, chained=False):
     """A file of items of these sizes, in the order of falling ids; how many boxes, items, extents,
-    associations and references it has."""
+    associations and references it has. They describe the first item where they are linked, and each
+    needs the next one where they are chained."""
     count = len(sizes)
     ids = range(count, 0, -1)
     head = box(b"ftyp", b"heic" + u32(0) + b"mif1heic")
@@ -51,6 +57,7 @@ def write(name, sizes, kinds=0, linked=False, extents=1):
         + box(b"pitm", full(0) + u16(1))
         + entries_of(ids)
         + (references_of(ids) if linked else b"")
+        + (chain_of(ids) if chained else b"")
         + properties_of(ids, kinds)
     )
     meta = 8 + len(front) + 8 + 8 + (8 + 8 * extents) * count
@@ -73,6 +80,6 @@ def write(name, sizes, kinds=0, linked=False, extents=1):
         while left > 0:
             file.write(chunk[: min(left, len(chunk))])
             left -= len(chunk)
-    references = count - 1 if linked else 0
+    references = count - 1 if linked or chained else 0
     associations = 2 * count if kinds else 0
     return 10 + count + kinds + references + count + extents * count + associations + references
