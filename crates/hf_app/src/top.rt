@@ -12,6 +12,7 @@ use crate::edit::edit_file;
 use crate::extract::extract_item;
 use crate::list::say_items;
 use crate::redacting::redact_file;
+use crate::trial::make_trial;
 use crate::words::word;
 use hf_desk::Desk;
 use hf_text::{Command, Outcome, WordsFault, read_words};
@@ -47,7 +48,7 @@ fn answer<D: Desk>(alloc: Global, words: &[String], command: &Command, desk: &mu
         Command::Redact { input, out, bare } => {
             redact_file(alloc, word(words, *input), word(words, *out), *bare, desk)
         }
-        Command::Trial { .. } => Outcome::NoMemory,
+        Command::Trial { seed, n, out } => make_trial(alloc, *seed, *n, word(words, *out), desk),
     }
 }
 
