@@ -97,15 +97,18 @@ module _ (command : Command) (input : List ℕ) (is : sources_of command ≡ (0,
       (Whole, whole, wider (D bytes) (IsDueOf command (Some files)) r old now (λ d due. of (Some files) d (subst (λ (b : List ℕ). D b d) same due)) a))
 
 -- edits, which read others
-module _ (input out : List ℕ) (edits : List EditWord) (old now : Outside) (bytes : List ℕ) (told : IfTold old input (λ file. bytes ≡ file)) (few : length bytes ≤ FILE) where
+module _ (input out : List ℕ) (edits : List EditWord) (old now : Outside) (bytes : List ℕ) (told : IfTold old input (λ file. bytes ≡ file))
+    (few : length bytes ≤ FILE) where
   -- the first that was not read whole was one of those
-  pub ends_unread : (n : ℕ) (why : ReadStop) → (why ≡ reads.TooLong → (files : Files) → old.files ≡ Some files → read_of (Some files) (sources_from 1 edits) ≡ Long n)
+  pub ends_unread : (n : ℕ) (why : ReadStop) → (why ≡ reads.TooLong → (files : Files) → old.files ≡ Some files
+      → read_of (Some files) (sources_from 1 edits) ≡ Long n)
       → Ends (EditFile input out edits) (outcome_of_read n why) old now
   ends_unread n why long = ends_long (EditFile input out edits) (0, input) (sources_from 1 edits) refl old now n why (λ e files some.
       let f = told_of old input (λ (file : List ℕ). bytes ≡ file) files some told in
       whole_first files 0 input f.0 (sources_from 1 edits) f.1 (subst (λ (b : List ℕ). length b ≤ FILE) f.2 few) ∙ long e files some)
 
-  pub ends_edits : (with : List Sourced) → ((files : Files) → old.files ≡ Some files → (read_of (Some files) (sources_from 1 edits) ≡ Whole) × (with ≡ map (sourced (Some files)) edits))
+  pub ends_edits : (with : List Sourced) → ((files : Files) → old.files ≡ Some files → (read_of (Some files) (sources_from 1 edits) ≡ Whole)
+      × (with ≡ map (sourced (Some files)) edits))
       → (r : Outcome) → Answers (IsDueOfFile (IsDueOfEdits with out) bytes) r old now → Ends (EditFile input out edits) r old now
   ends_edits with read r a = ends_read (EditFile input out edits) (0, input) (sources_from 1 edits) refl r old now (λ files some.
       let f = told_of old input (λ (file : List ℕ). bytes ≡ file) files some told in
@@ -145,7 +148,8 @@ told_where None [] P is p = p
 told_where None (s ∷ ss) P is p = absurd is
 told_where (Some files) ss P is p = p
 
-due_in : (command : Command) (r : Outcome) (old now : Outside) → Ends command r old now → IsDefined (Ok command) old.files → Answers (IsDue (Ok command) old.files) r old now
+due_in : (command : Command) (r : Outcome) (old now : Outside) → Ends command r old now → IsDefined (Ok command) old.files
+    → Answers (IsDue (Ok command) old.files) r old now
 due_in command Done old now ends defined = told_where old.files (sources_of command) _ defined ends
 due_in command WriteFault old now ends defined = told_where old.files (sources_of command) _ defined ends
 due_in command ReadFault old now ends defined = tt
@@ -168,7 +172,8 @@ due_or Is (Refused edit why) old now none a = inr a
 due_or Is (NoSuchItem id) old now none a = inr a
 due_or Is (TooLong source) old now none a = inr a
 
-no_fault : (r : Outcome) (old now : Outside) → HasCause r old now → (Rose old.read_faults now.read_faults → ⊥) → (Rose old.write_faults now.write_faults → ⊥) → NoFault r
+no_fault : (r : Outcome) (old now : Outside) → HasCause r old now → (Rose old.read_faults now.read_faults → ⊥) → (Rose old.write_faults now.write_faults
+    → ⊥) → NoFault r
 no_fault Done old now cause reads writes = tt
 no_fault WriteFault old now cause reads writes = absurd (writes cause)
 no_fault ReadFault old now cause reads writes = absurd (reads cause)
@@ -186,7 +191,8 @@ module _ (read : Result Command ℕ) (command : Command) (is : read ≡ Ok comma
 
   pub steady_of_words : IsSteady command r old → old.steady ≡ true → OutIsFree read old → ForDue read old (λ Is. IsDueOrNoMemory Is r)
   steady_of_words steady still free = subst (λ (read : Result Command ℕ). ForDue read old (λ Is. IsDueOrNoMemory Is r)) (sym is) (λ defined.
-      due_or (IsDue (Ok command) old.files) r old now (steady still (subst (λ (read : Result Command ℕ). OutIsFree read old) is free) defined) (due_in command r old now ends defined))
+      due_or (IsDue (Ok command) old.files) r old now (steady still (subst (λ (read : Result Command ℕ). OutIsFree read old) is free) defined)
+      (due_in command r old now ends defined))
 
   pub complete_of_words : HasCause r old now → (Rose old.read_faults now.read_faults → ⊥) → (Rose old.write_faults now.write_faults → ⊥)
       → ForDue read old (λ Is. IsDueOrNoMemory Is r)
@@ -200,4 +206,10 @@ module _ (read : Result Command ℕ) (command : Command) (is : read ≡ Ok comma
 
 -- words that are no command
 pub usage_due : (read : Result Command ℕ) (old now : Outside) (at : ℕ) → read ≡ Err at → ForDue read old (λ Is. Answers Is (Usage at) old now)
-usage_due read old now at e = subst (λ (read : Result Command ℕ). ForDue read old (λ Is. Answers Is (Usage at) old now)) (sym e) (λ defined. (answered (Usage at), refl, refl, tt))
+usage_due read old now at e = subst (λ (read : Result Command ℕ). ForDue read old (λ Is. Answers Is (Usage at) old now)) (sym e) (λ defined. (
+  answered
+      (Usage at),
+  refl,
+  refl,
+  tt,
+))

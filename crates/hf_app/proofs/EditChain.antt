@@ -33,7 +33,8 @@ abbrev pub Reached : Type 0
 Reached = Result ItemStore (ℕ × Reason)
 
 -- edits behind others
-stepped_first : (n : ℕ) (s after : ItemStore) (e : Edit) (xs ys : List Edit) → ((n : ℕ) (s after : ItemStore) → stepped n s xs ≡ Ok after → stepped n s (xs ++ ys) ≡ stepped (n + length xs) after ys)
+stepped_first : (n : ℕ) (s after : ItemStore) (e : Edit) (xs ys : List Edit) → ((n : ℕ) (s after : ItemStore) → stepped n s xs ≡ Ok after
+    → stepped n s (xs ++ ys) ≡ stepped (n + length xs) after ys)
     → (o : Option Reason) → why s e ≡ o → unless n o (stepped (n + 1) (step s e) xs) ≡ Ok after
     → unless n o (stepped (n + 1) (step s e) (xs ++ ys)) ≡ stepped (n + length (e ∷ xs)) after ys
 stepped_first n s after e xs ys more None is steps = more (n + 1) (step s e) after steps ∙ ap (λ (k : ℕ). stepped k after ys) (omega arith)
@@ -41,11 +42,13 @@ stepped_first n s after e xs ys more (Some reason) is steps = absurd cc
 
 pub stepped-append : (xs ys : List Edit) (n : ℕ) (s after : ItemStore) → stepped n s xs ≡ Ok after → stepped n s (xs ++ ys) ≡ stepped (n + length xs) after ys
 unfolding stepped
-stepped-append [] ys n s after steps = let same : s ≡ after = cc in ap (λ (s : ItemStore). stepped n s ys) same ∙ ap (λ (k : ℕ). stepped k after ys) (omega arith)
+stepped-append [] ys n s after steps = let same : s ≡ after = cc in ap (λ (s : ItemStore). stepped n s ys) same
+    ∙ ap (λ (k : ℕ). stepped k after ys) (omega arith)
 stepped-append (e ∷ xs) ys n s after steps = stepped_first n s after e xs ys (stepped-append xs ys) (why s e) refl steps
 
 -- those that are refused stay so with others behind them
-stopped_first : (n : ℕ) (s : ItemStore) (e : Edit) (xs ys : List Edit) (p : ℕ × Reason) → ((n : ℕ) (s : ItemStore) → stepped n s xs ≡ Err p → stepped n s (xs ++ ys) ≡ Err p)
+stopped_first : (n : ℕ) (s : ItemStore) (e : Edit) (xs ys : List Edit) (p : ℕ × Reason) → ((n : ℕ) (s : ItemStore) → stepped n s xs ≡ Err p
+    → stepped n s (xs ++ ys) ≡ Err p)
     → (o : Option Reason) → why s e ≡ o → unless n o (stepped (n + 1) (step s e) xs) ≡ Err p → unless n o (stepped (n + 1) (step s e) (xs ++ ys)) ≡ Err p
 stopped_first n s e xs ys p more None is steps = more (n + 1) (step s e) steps
 stopped_first n s e xs ys p more (Some reason) is steps = steps
@@ -70,7 +73,8 @@ stepped-none n s = refl
 
 -- ---- what is meant
 
-pub meant-push : (edits : List Sourced) (meant : List Edit) (w : Sourced) (e : Edit) → AreMeant edits meant → IsMeant w.0 w.1 e → AreMeant (edits ++ w ∷ []) (meant ++ e ∷ [])
+pub meant-push : (edits : List Sourced) (meant : List Edit) (w : Sourced) (e : Edit) → AreMeant edits meant → IsMeant w.0 w.1 e
+    → AreMeant (edits ++ w ∷ []) (meant ++ e ∷ [])
 meant-push [] [] w e all one = (one, tt)
 meant-push [] (f ∷ fs) w e all one = absurd all
 meant-push (v ∷ vs) [] w e all one = absurd all
@@ -106,14 +110,16 @@ module _ (words : List (List ℕ)) (edits : List PlacedEdit) (files : List (Vec 
       let each : i < length fs = omega (arith, less, count, length-map files (λ (f : Vec ℕ). f.items)) in
       get_or-zip ws fs i (edit_of words (get_or edits i d), f.items) all each
       ∙ ap (λ (w : EditWord). (w, get_or fs i f.items)) (get_or-map (edit_of words) edits i d (edit_of words (get_or edits i d)) less)
-      ∙ ap (λ (b : List ℕ). (edit_of words (get_or edits i d), b)) (get_or-map (λ (f : Vec ℕ). f.items) files i f f.items (omega (arith, less, count)) ∙ ap (λ (f : Vec ℕ). f.items) is_file)
+      ∙ ap (λ (b : List ℕ). (edit_of words (get_or edits i d), b)) (get_or-map (λ (f : Vec ℕ). f.items) files i f f.items (omega (arith, less, count))
+      ∙ ap (λ (f : Vec ℕ). f.items) is_file)
 
   -- all of them
   pub with_files_all : (i : ℕ) → length edits ≤ i → take i (with_files words edits files) ≡ with_files words edits files
   with_files_all i all = take_all i (with_files words edits files) (omega (arith, all, with_files_len))
 
 -- the edits before a place are accepted, and the one there is looked at
-module _ (old mid : ItemStore) (edits : List Sourced) (i : ℕ) (w : Sourced) (less : i < length edits) (is_there : get_or edits i w ≡ w) (before : AreAccepted old (take i edits) mid) where
+module _ (old mid : ItemStore) (edits : List Sourced) (i : ℕ) (w : Sourced) (less : i < length edits) (is_there : get_or edits i w ≡ w)
+    (before : AreAccepted old (take i edits) mid) where
   more : take (i + 1) edits ≡ take i edits ++ w ∷ []
   more = take_more edits i w less ∙ ap (λ (v : Sourced). take i edits ++ v ∷ []) is_there
 
@@ -121,7 +127,8 @@ module _ (old mid : ItemStore) (edits : List Sourced) (i : ℕ) (w : Sourced) (l
   number = let same = meant-length (take i edits) before.meant before.are_meant in let taken = length-take i edits in omega (arith, same, taken, less)
 
   now_meant : (e : Edit) → IsMeant w.0 w.1 e → AreMeant (take (i + 1) edits) (before.meant ++ e ∷ [])
-  now_meant e one = subst (λ (vs : List Sourced). AreMeant vs (before.meant ++ e ∷ [])) (sym more) (meant-push (take i edits) before.meant w e before.are_meant one)
+  now_meant e one = subst (λ (vs : List Sourced). AreMeant vs (before.meant ++ e ∷ [])) (sym more) (meant-push
+      (take i edits) before.meant w e before.are_meant one)
 
   now_steps : (e : Edit) → stepped 1 old (before.meant ++ e ∷ []) ≡ stepped (i + 1) mid (e ∷ [])
   now_steps e = stepped-append before.meant (e ∷ []) 1 old mid before.steps ∙ ap (λ (k : ℕ). stepped k mid (e ∷ [])) number
@@ -172,7 +179,8 @@ input_stops file edits (stops.Refused n reason) is = absurd is
 input_stops file edits stops.NoMemory is = tt
 
 -- an edit is
-pub edits_stop : (file : List ℕ) (edits : List Sourced) (s after : ItemStore) (stop : Stop) → IsOpened file s → Steps s edits (Err stop) after → Stops file edits stop
+pub edits_stop : (file : List ℕ) (edits : List Sourced) (s after : ItemStore) (stop : Stop) → IsOpened file s → Steps s edits (Err stop) after
+    → Stops file edits stop
 edits_stop file edits s after (stops.Unfit n fault) opened steps = inr (s, opened, steps)
 edits_stop file edits s after (stops.Refused n reason) opened steps = (s, opened, steps)
 edits_stop file edits s after stops.NoMemory opened steps = tt
@@ -182,11 +190,22 @@ pub stops_due : (file out : List ℕ) (edits : List Sourced) (old now : Outside)
     → Answers (IsDueOfFile (IsDueOfEdits edits out) file) (outcome_of_stop stop) old now
 stops_due file out edits old now (stops.Unfit n fault) (inl is) = refused_due (IsDueOfEdits edits out) file old now (stops.Unfit n fault) is
 stops_due file out edits old now (stops.Unfit n fault) (inr (s, opened, is)) = (answered (Unfit n fault), inr (s, opened, inl (n, fault, is, refl)), refl, tt)
-stops_due file out edits old now (stops.Refused n reason) (s, opened, is) = (answered (Refused n reason), inr (s, opened, inr (inl (n, reason, is, refl))), refl, tt)
+stops_due file out edits old now (stops.Refused n reason) (s, opened, is) = (
+  answered (Refused n reason),
+  inr (
+    s,
+    opened,
+    inr (inl
+        (n, reason, is, refl)),
+  ),
+  refl,
+  tt,
+)
 stops_due file out edits old now stops.NoMemory is = tt
 
 -- the canonical file of what is left is
-pub edits_due : (file out : List ℕ) (edits : List Sourced) (after : ItemStore) (bytes : List ℕ) → Valid after → (s : ItemStore) × IsOpened file s × AreAccepted s edits after
+pub edits_due : (file out : List ℕ) (edits : List Sourced) (after : ItemStore) (bytes : List ℕ) → Valid after → (s : ItemStore) × IsOpened file s
+    × AreAccepted s edits after
     → Canon after bytes → IsDueOfFile (IsDueOfEdits edits out) file (made out bytes)
 edits_due file out edits after bytes valid (s, opened, accepted) canonical =
     inr (s, opened, inr (inr (after, accepted, (bytes, canonical, canon_denotes after bytes valid canonical, refl))))

@@ -1,8 +1,13 @@
 pub mod Checking
 pub mod Dues
 pub mod EditChain
+pub mod EqualBytes
 pub mod Faults
+pub mod Forgetting
+pub mod Headlines
+pub mod OneDue
 pub mod Pieces
 pub mod Reading
 pub mod Redacted
+pub mod SomethingDue
 pub mod SourceLaws

@@ -18,7 +18,8 @@ module _ (pieces : List (List ℕ)) (i : ℕ) where
   module _ (p : List ℕ) (there : slice_get pieces i ≡ Some p) {a b c : Outside} (before : Puts a (flat_map itself (take i pieces)) (Ok tt) b) where
     -- one more
     put : {r : Wrote} → Puts b p r c → Puts a (flat_map itself (take (i + 1) pieces)) r c
-    put {r = r} more = puts_each itself pieces i p (slice_get_within pieces i p there) before (subst (λ (q : List ℕ). Puts b q r c) (sym (get_or_from_slice_get pieces i p p there)) more)
+    put {r = r} more = puts_each itself pieces i p (slice_get_within pieces i p there) before (subst (λ (q : List ℕ). Puts b q r c) (sym
+        (get_or_from_slice_get pieces i p p there)) more)
 
     pub piece_more : Puts b p (Ok tt) c → Puts a (flat_map itself (take (i + 1) pieces)) (Ok tt) c
     piece_more more = put more

@@ -8,7 +8,8 @@ use Rattle.hf_app.specs.Due.{IsDueOfCanon, IsDueOfFile, IsDueOfRedact, made}
 use Rattle.hf_app.specs.Redactions.{Redacts}
 
 -- the canonical file of what is left is made
-pub redact_due : (file out : List ℕ) (bare : Bool) (after : ItemStore) (plan : Planned) (bytes : List ℕ) → Redacts file bare (Ok (after, plan)) → Canon after bytes
+pub redact_due : (file out : List ℕ) (bare : Bool) (after : ItemStore) (plan : Planned) (bytes : List ℕ) → Redacts file bare (Ok (after, plan))
+    → Canon after bytes
     → IsDueOfFile (IsDueOfRedact bare out) file (made out bytes)
 redact_due file out bare after plan bytes (s, opened, (planned, same)) canonical =
     inr (

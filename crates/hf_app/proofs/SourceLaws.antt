@@ -53,10 +53,12 @@ module _ (told : Files) (ws : List EditWord) (i : ℕ) (w : EditWord) (less : i 
       ∙ ap (λ (r : Readable). read_then r Whole) one
 
   pub long_now : (m : ℕ) → read_of (Some told) (source_of n w) ≡ Long m → read_of (Some told) (sources_from 1 ws) ≡ Long m
-  long_now m long = ap (λ (vs : List EditWord). read_of (Some told) (sources_from 1 vs)) (sym whole) ∙ long_at (Some told) (take i ws) (drop (i + 1) ws) w n placed before m long
+  long_now m long = ap (λ (vs : List EditWord). read_of (Some told) (sources_from 1 vs)) (sym whole)
+      ∙ long_at (Some told) (take i ws) (drop (i + 1) ws) w n placed before m long
 
   pub readable_now : IsReadable (read_of (Some told) (sources_from 1 ws)) → IsReadable (read_of (Some told) (source_of n w))
-  readable_now is = readable_at (Some told) (take i ws) (drop (i + 1) ws) w n placed before (subst (λ (vs : List EditWord). IsReadable (read_of (Some told) (sources_from 1 vs))) (sym whole) is)
+  readable_now is = readable_at (Some told) (take i ws) (drop (i + 1) ws) w n placed before (subst (λ (vs : List EditWord). IsReadable (read_of (Some told)
+      (sources_from 1 vs))) (sym whole) is)
 
   -- its bytes stand behind theirs
   pub content_more : (bytes : List ℕ) (all : List (List ℕ)) → bytes ≡ content_of (Some told) w → all ≡ map (content_of (Some told)) (take i ws)
@@ -68,12 +70,14 @@ module _ (told : Files) (ws : List EditWord) (i : ℕ) (w : EditWord) (less : i 
       ∙ ap (λ (vs : List EditWord). map (content_of (Some told)) vs) more
 
 -- the first that is not read whole stops all
-pub stops_now : (old mid new : Outside) (ws : List EditWord) (i : ℕ) (w : EditWord) → i < length ws → get_or ws i w ≡ w → (n : ℕ) → n ≡ i + 1 → ReadsOnly old mid
+pub stops_now : (old mid new : Outside) (ws : List EditWord) (i : ℕ) (w : EditWord) → i < length ws → get_or ws i w ≡ w → (n : ℕ) → n ≡ i + 1
+    → ReadsOnly old mid
     → ((told : Files) → old.files ≡ Some told → read_of (Some told) (sources_from 1 (take i ws)) ≡ Whole)
     → (m : ℕ) (why : ReadStop) → StopsReading mid (source_of n w) m why new → StopsReading old (sources_from 1 ws) m why new
 stops_now old mid new ws i w less is_there n number only before m stops.TooLong is =
     each_some old.files (λ (told : Files). read_of (Some told) (sources_from 1 ws) ≡ Long m) (λ told some.
-    long_now told ws i w less is_there n number (before told some) m (some_is mid.files (λ (told : Files). read_of (Some told) (source_of n w) ≡ Long m) is told (only.files ∙ some)))
+    long_now told ws i w less is_there n number (before told some) m (some_is mid.files (λ (told : Files). read_of (Some told)
+    (source_of n w) ≡ Long m) is told (only.files ∙ some)))
 stops_now old mid new ws i w less is_there n number only before m stops.Fault is = rose_later old.read_faults mid.read_faults new.read_faults only.later is
 stops_now old mid new ws i w less is_there n number only before m stops.NoMemory is = tt
 
@@ -92,12 +96,15 @@ zip-map f [] = refl
 zip-map f (w ∷ ws) = ap (λ (rest : List Sourced). (w, f w) ∷ rest) (zip-map f ws)
 
 pub sourced_files : (texts : List (List ℕ)) (edits : List PlacedEdit) (files : List (Vec ℕ)) (old mid : Outside) → mid.files ≡ old.files
-    → IfSome mid.files (λ told. (read_of (Some told) (sources_from 1 (map (edit_of texts) edits)) ≡ Whole) × (map (λ (f : Vec ℕ). f.items) files ≡ map (content_of (Some told)) (map (edit_of texts) edits)))
+    → IfSome mid.files (λ told. (read_of (Some told) (sources_from 1 (map (edit_of texts) edits)) ≡ Whole)
+    × (map (λ (f : Vec ℕ). f.items) files ≡ map (content_of (Some told)) (map (edit_of texts) edits)))
     → (told : Files) → old.files ≡ Some told
-    → (read_of (Some told) (sources_from 1 (map (edit_of texts) edits)) ≡ Whole) × (with_files texts edits files ≡ map (sourced (Some told)) (map (edit_of texts) edits))
+    → (read_of (Some told) (sources_from 1 (map (edit_of texts) edits)) ≡ Whole)
+    × (with_files texts edits files ≡ map (sourced (Some told)) (map (edit_of texts) edits))
 sourced_files texts edits files old mid same read told some =
     let ws = map (edit_of texts) edits in
-    let r = some_is mid.files (λ (told : Files). (read_of (Some told) (sources_from 1 ws) ≡ Whole) × (map (λ (f : Vec ℕ). f.items) files ≡ map (content_of (Some told)) ws)) read told (same ∙ some) in
+    let r = some_is mid.files (λ (told : Files). (read_of (Some told) (sources_from 1 ws) ≡ Whole)
+    × (map (λ (f : Vec ℕ). f.items) files ≡ map (content_of (Some told)) ws)) read told (same ∙ some) in
     (r.0, ap (λ (contents : List (List ℕ)). zip ws contents) r.1 ∙ zip-map (content_of (Some told)) ws)
 
 -- where a file is read and something is due, the files are told
@@ -111,7 +118,8 @@ no_fault_of n stops.Fault never = absurd (never refl)
 no_fault_of n stops.NoMemory never = tt
 
 -- no read of a file that is there fails
-pub steady_unread : (input out : List ℕ) (ws : List EditWord) (old mid : Outside) (bytes : List ℕ) → IfTold old input (λ file. bytes ≡ file) → length bytes ≤ FILE
+pub steady_unread : (input out : List ℕ) (ws : List EditWord) (old mid : Outside) (bytes : List ℕ) → IfTold old input (λ file. bytes ≡ file)
+    → length bytes ≤ FILE
     → ReadsOnly old mid → (unread : Unread)
     → (mid.steady ≡ true → (told : Files) → mid.files ≡ Some told → IsReadable (read_of (Some told) (sources_from 1 ws)) → unread.why ≡ stops.Fault → ⊥)
     → IsSteady (EditFile input out ws) (outcome_of_read unread.source unread.why) old

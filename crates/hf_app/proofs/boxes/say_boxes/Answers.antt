@@ -27,7 +27,8 @@ returns-in-Err-Unfit-clause-ends g c =
     let name = c.args.name.now in
     let read = c.in-Ok.ensures in
     let fault : walk_at c.in-Ok.file.items ≡ Err c.in-Err-Unfit.why = search rules in
-    ends_one (Boxes name) name refl Of (λ files d due. due) (g.D.Desk.outside c.args.desk.now) (g.D.Desk.outside c.read_input.new.desk) c.in-Ok.file.items read.whole read.within
+    ends_one (Boxes name) name refl Of (λ files d due. due) (g.D.Desk.outside c.args.desk.now)
+    (g.D.Desk.outside c.read_input.new.desk) c.in-Ok.file.items read.whole read.within
     (Unfit 0 c.in-Err-Unfit.why) (answered (Unfit 0 c.in-Err-Unfit.why), sym (ap due_of_rows fault), refl, tt)
 
 pub returns-in-Ok-say_rows-clause-ends : goal.returns-in-Ok-say_rows-clause-ends

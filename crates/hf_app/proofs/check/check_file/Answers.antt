@@ -50,4 +50,5 @@ returns-clause-ends g c =
     let bytes = c.in-Ok.file.items in
     let old = g.D.Desk.outside c.args.desk.now in
     ends_one (CheckFile name) name refl Of (λ files d due. due) old _ bytes read.whole read.within
-    WriteFault (broken_check bytes c.in-Ok-is_canonical.canonical old _ (rw c.deref.ensures.value at c.in-Ok-is_canonical.ensures) (search rules) (search rules))
+    WriteFault (broken_check bytes c.in-Ok-is_canonical.canonical old _ (rw c.deref.ensures.value at c.in-Ok-is_canonical.ensures) (search rules)
+    (search rules))

@@ -51,7 +51,8 @@ returns-in-Err-read_sources-clause-steady g c =
     let unread = c.in-Err-read_sources.unread in
     let old = g.D.Desk.outside c.args.desk.now in
     let mid = g.D.Desk.outside c.read_input.new.desk in
-    rw c.stopped-in-Err-read_sources.ensures (steady_unread input out ws old mid c.in-Ok.file.items read.whole read.within read.only unread c.in-Err-read_sources.ensures.steady)
+    rw c.stopped-in-Err-read_sources.ensures (steady_unread input out ws old mid c.in-Ok.file.items read.whole read.within read.only unread
+    c.in-Err-read_sources.ensures.steady)
 
 pub returns-in-Err-edited-clause-ends : goal.returns-in-Err-edited-clause-ends
 returns-in-Err-edited-clause-ends g c =

@@ -31,7 +31,8 @@ returns-in-Err-opened-clause-ends g c =
     let why = c.in-Err-opened.why in
     let old = g.D.Desk.outside c.args.desk.now in
     let new = g.D.Desk.outside c.read_input.new.desk in
-    rw c.refused.ensures (ends_one (Extract input id out) input refl (IsDueOfFile (IsDueOfExtract id out)) (λ files d due. due) old new bytes read.whole read.within
+    rw c.refused.ensures (ends_one (Extract input id out) input refl (IsDueOfFile (IsDueOfExtract id out))
+    (λ files d due. due) old new bytes read.whole read.within
     (outcome_of_stop why) (refused_due (IsDueOfExtract id out) bytes old new why (rw c.deref.ensures.value at c.in-Err-opened.ensures)))
 
 pub returns-in_default-clause-ends : goal.returns-in_default-clause-ends
@@ -85,5 +86,14 @@ returns-clause-ends g c =
       made out i.bytes,
       inr (s, opened, inr (i, found.1, found.0, refl)),
       refl,
-      (made_along_in_part read.only (search rules), record { front = []; rest = []; whole = refl; said = unsaid old _ (c.make_pieces.ensures.only.said ∙ read.only.said) }),
+      (
+        made_along_in_part read.only (search rules),
+        record {
+          front = [];
+          rest = [];
+          whole = refl;
+          said = unsaid old _ (c.make_pieces.ensures.only.said
+              ∙ read.only.said);
+        },
+      ),
     )

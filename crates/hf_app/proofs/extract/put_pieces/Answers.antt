@@ -9,7 +9,8 @@ pub put_all-requires : goal.put_all-requires
 put_all-requires g c = c.loop-i.invariant.only.creating ∙ c.requires
 
 pub returns-in_err-put_all : goal.returns-in_err-put_all
-returns-in_err-put_all g c = piece_stops c.args.pieces.now c.loop-i.i _ c.piece.ensures.value c.loop-i.invariant c.from_residual.ensures.0 c.in_err-put_all.ensures refl
+returns-in_err-put_all g c = piece_stops c.args.pieces.now c.loop-i.i _ c.piece.ensures.value c.loop-i.invariant c.from_residual.ensures.0
+    c.in_err-put_all.ensures refl
 
 pub loop-i-preserved : goal.loop-i-preserved
 loop-i-preserved g c = piece_more c.args.pieces.now c.loop-i.i _ c.piece.ensures.value c.loop-i.invariant c.in_ok-put_all.ensures

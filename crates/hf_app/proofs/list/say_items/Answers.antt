@@ -34,7 +34,8 @@ returns-in-Ok-say_list-clause-ends g c =
     let name = c.args.name.now in
     let read = c.in-Ok.ensures in
     let s = c.in-Ok-opened.store in
-    ends_one (ListFile name) name refl (IsDueOfFile IsDueOfList) (λ files d due. due) (g.D.Desk.outside c.args.desk.now) _ c.in-Ok.file.items read.whole read.within
+    ends_one (ListFile name) name refl (IsDueOfFile IsDueOfList) (λ files d due. due)
+    (g.D.Desk.outside c.args.desk.now) _ c.in-Ok.file.items read.whole read.within
     Done (said (listing_text s), inr (s, rw c.deref.ensures.value at c.in-Ok-opened.ensures, refl), refl, (search rules, search rules))
 
 pub returns-clause-ends : goal.returns-clause-ends
@@ -42,5 +43,6 @@ returns-clause-ends g c =
     let name = c.args.name.now in
     let read = c.in-Ok.ensures in
     let s = c.in-Ok-opened.store in
-    ends_one (ListFile name) name refl (IsDueOfFile IsDueOfList) (λ files d due. due) (g.D.Desk.outside c.args.desk.now) _ c.in-Ok.file.items read.whole read.within
+    ends_one (ListFile name) name refl (IsDueOfFile IsDueOfList) (λ files d due. due)
+    (g.D.Desk.outside c.args.desk.now) _ c.in-Ok.file.items read.whole read.within
     WriteFault (said (listing_text s), inr (s, rw c.deref.ensures.value at c.in-Ok-opened.ensures, refl), refl, (search rules, search rules))

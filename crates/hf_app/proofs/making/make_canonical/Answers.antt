@@ -7,7 +7,12 @@ pub returns-in-Ok : goal.returns-in-Ok
 returns-in-Ok g c =
     let F = has_canon c.args.store.now c.valid.ensures in
     let puts = c.write.ensures F.0 F.1 in
-    record { file = F.0; canonical = F.1; makes = makes c.in-Ok.ensures.ok (search rules) (search rules) (λ is lacks. (c.in-Ok.ensures.steady is lacks).1) puts }
+    record {
+      file = F.0;
+      canonical = F.1;
+      makes = makes c.in-Ok.ensures.ok (search rules) (search rules) (λ is lacks.
+          (c.in-Ok.ensures.steady is lacks).1) puts;
+    }
 
 pub returns-in-Err : goal.returns-in-Err
 returns-in-Err g c =

@@ -31,7 +31,8 @@ returns-in-Err-redacted-clause-ends g c =
     let why = c.in-Err-redacted.why in
     let old = g.D.Desk.outside c.args.desk.now in
     let new = g.D.Desk.outside c.read_input.new.desk in
-    rw c.refused.ensures (ends_one (Redact input out bare) input refl (IsDueOfFile (IsDueOfRedact bare out)) (λ files d due. due) old new bytes read.whole read.within
+    rw c.refused.ensures (ends_one (Redact input out bare) input refl (IsDueOfFile (IsDueOfRedact bare out))
+    (λ files d due. due) old new bytes read.whole read.within
     (outcome_of_stop why) (refused_due (IsDueOfRedact bare out) bytes old new why (rw c.deref.ensures.value at c.in-Err-redacted.ensures)))
 
 pub returns-in-Ok-make_canonical-clause-ends : goal.returns-in-Ok-make_canonical-clause-ends
@@ -67,5 +68,14 @@ returns-clause-ends g c =
       made out makes.file,
       redact_due bytes out bare _ _ makes.file redacts makes.canonical,
       refl,
-      (made_along_in_part read.only (search rules), record { front = []; rest = []; whole = refl; said = unsaid old _ (makes.makes.only.said ∙ read.only.said) }),
+      (
+        made_along_in_part read.only (search rules),
+        record {
+          front = [];
+          rest = [];
+          whole = refl;
+          said = unsaid old _ (makes.makes.only.said
+              ∙ read.only.said);
+        },
+      ),
     )

@@ -14,22 +14,26 @@ answer-requires-clause-few g c =
 pub returns-in-Ok-clause-headline : goal.returns-in-Ok-clause-headline
 returns-in-Ok-clause-headline g c = λ command is.
     let texts = map string_bytes c.args.words.now in
-    one_command (command_read texts) (command_of texts c.in-Ok.command) c.in-Ok.ensures.read c.answer.result (g.D.Desk.outside c.args.desk.now) _ c.answer.ensures.ends command is
+    one_command (command_read texts) (command_of texts c.in-Ok.command) c.in-Ok.ensures.read c.answer.result
+    (g.D.Desk.outside c.args.desk.now) _ c.answer.ensures.ends command is
 
 pub returns-in-Ok-clause-due : goal.returns-in-Ok-clause-due
 returns-in-Ok-clause-due g c =
     let texts = map string_bytes c.args.words.now in
-    due_of_words (command_read texts) (command_of texts c.in-Ok.command) c.in-Ok.ensures.read c.answer.result (g.D.Desk.outside c.args.desk.now) _ c.answer.ensures.ends
+    due_of_words (command_read texts) (command_of texts c.in-Ok.command) c.in-Ok.ensures.read c.answer.result
+    (g.D.Desk.outside c.args.desk.now) _ c.answer.ensures.ends
 
 pub returns-in-Ok-clause-steady : goal.returns-in-Ok-clause-steady
 returns-in-Ok-clause-steady g c =
     let texts = map string_bytes c.args.words.now in
-    steady_of_words (command_read texts) (command_of texts c.in-Ok.command) c.in-Ok.ensures.read c.answer.result (g.D.Desk.outside c.args.desk.now) _ c.answer.ensures.ends c.answer.ensures.steady
+    steady_of_words (command_read texts) (command_of texts c.in-Ok.command) c.in-Ok.ensures.read c.answer.result
+    (g.D.Desk.outside c.args.desk.now) _ c.answer.ensures.ends c.answer.ensures.steady
 
 pub returns-in-Ok-clause-complete : goal.returns-in-Ok-clause-complete
 returns-in-Ok-clause-complete g c =
     let texts = map string_bytes c.args.words.now in
-    complete_of_words (command_read texts) (command_of texts c.in-Ok.command) c.in-Ok.ensures.read c.answer.result (g.D.Desk.outside c.args.desk.now) _ c.answer.ensures.ends c.answer.ensures.cause
+    complete_of_words (command_read texts) (command_of texts c.in-Ok.command) c.in-Ok.ensures.read c.answer.result
+    (g.D.Desk.outside c.args.desk.now) _ c.answer.ensures.ends c.answer.ensures.cause
 
 pub returns-in-Err-Usage-clause-due : goal.returns-in-Err-Usage-clause-due
 returns-in-Err-Usage-clause-due g c =
