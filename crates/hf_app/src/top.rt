@@ -67,7 +67,7 @@ pub fn run<D: Desk>(alloc: Global, words: &[String], desk: &mut D) -> Outcome
     // there, where they are told, up to one that is too long, and the answer is due of them. For
     // `edit` that answers Done: the input denotes a store, and the file made is the one canonical file
     // of that store after all edits in order, and denotes it. For `redact` it is that of the redacted
-    // store. The laws say so of each command.
+    // store, and for `trial` that of the trial, whose numbers were said. The laws say so of each command.
     ensures headline { (command : Words) → command_read (map string_bytes words.now) ≡ Ok command
         → Ends command result (D.outside desk.old) (D.outside desk.new) }
     // Where something is due, it is the answer; Done made and said all of it, WriteFault a front.
