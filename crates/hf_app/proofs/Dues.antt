@@ -31,7 +31,7 @@ wider Is Js (Refused edit why) old now f (d, is, same, t) = (d, f d is, same, t)
 wider Is Js (NoSuchItem id) old now f (d, is, same, t) = (d, f d is, same, t)
 wider Is Js (TooLong source) old now f (d, is, same, t) = (d, f d is, same, t)
 
-tells : (r : Outcome) (P : Type 0) → P → IfTells r P
+pub tells : (r : Outcome) (P : Type 0) → P → IfTells r P
 tells Done P p = p
 tells WriteFault P p = p
 tells ReadFault P p = tt

@@ -11,3 +11,4 @@ pub mod Reading
 pub mod Redacted
 pub mod SomethingDue
 pub mod SourceLaws
+pub mod Trials

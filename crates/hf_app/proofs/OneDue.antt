@@ -25,6 +25,7 @@ use Rattle.hf_app.specs.Edits.{AreAccepted, AreMeant, AreRefused, AreUnfit, IsMe
 use Rattle.hf_app.specs.Opening.{IsOpened}
 use Rattle.hf_app.specs.Sources.{Sourced, Readable, Missing, Long, Whole, bytes_in, read_of, sourced, sources_of}
 use Rattle.hf_app.proofs.EditChain.{Reached, stepped-append, stopped-append}
+use Rattle.hf_app.proofs.Trials.{one_trial}
 
 -- ---- what edits mean is one thing
 
@@ -255,7 +256,7 @@ one_of (EditFile input out edits) files a b x y =
     (bytes_in files input) a b x y
 one_of (Redact input out bare) files a b x y = one_of_file (IsDueOfRedact bare out) (λ s valid a b x y. one_canon_due out _ a b x y)
     (bytes_in files input) a b x y
-one_of (Trial seed n out) files a b x y = x ∙ sym y
+one_of (Trial seed n out) files a b x y = one_trial seed n out a b x y
 
 one_of_read : (command : Command) (files : Option Files) (r : Readable) (a b : Due) → IsDueOfRead command files r a → IsDueOfRead command files r b → a ≡ b
 one_of_read command files Missing a b x y = absurd x

@@ -27,9 +27,9 @@ use Rattle.hf_store.specs.Valid.{Valid}
 use Rattle.hf_store.specs.declared.reason.Reason.{Reason}
 use Rattle.hf_text.specs.Answers.{check_text}
 use Rattle.hf_text.specs.Listing.{listing_text}
-use Rattle.hf_text.specs.Words.{EditWord, Command, Boxes, ListFile, CheckFile, Extract, EditFile, Redact, Trial}
+use Rattle.hf_text.specs.Words.{EditWord, Command, Boxes, ListFile, CheckFile, Extract, EditFile, Redact, Trial, IsCommand}
 use Rattle.hf_text.specs.Words as words
-use Rattle.hf_text.specs.declared.outcome.Outcome.TheVariants.{Usage, Unfit, Refused, NoSuchItem, TooLong, NoMemory}
+use Rattle.hf_text.specs.declared.outcome.Outcome.TheVariants.{Usage, Unfit, Refused, NoSuchItem, TooLong}
 use Rattle.hf_app.specs.Due.{Due, IsDefined, IsDue, IsDueOf, IsDueOfCanon, IsDueOfCheck, IsDueOfEdits, IsDueOfExtract, IsDueOfFile, IsDueOfList, IsDueOfRead, IsDueOfRedact, answered, due_of_rows, made, said}
 use Rattle.hf_app.specs.Edits.{AreAccepted, IsMeant, IsUnfit, Steps}
 use Rattle.hf_app.specs.Opening.{IsOpened}
@@ -37,6 +37,7 @@ use Rattle.hf_app.specs.Sources.{Readable, Missing, Long, Whole, IsReadable, Sou
 use Rattle.hf_app.specs.declared.stopping.Stop.TheVariants as stops
 use Rattle.hf_app.proofs.EditChain.{one_more, one_stops, stepped-none}
 use Rattle.hf_app.proofs.Reading.{readable_long, read_of-append}
+use Rattle.hf_app.proofs.Trials.{trial_due}
 
 -- ---- a store is written
 
@@ -234,29 +235,31 @@ module _ (files : Option Files) (bytes : (told : Files) (name file : List ℕ) �
       let parts = sym (read_of-append files (source_of n v) (sources_from (n + 1) vs)) ∙ whole in
       good_contents vs (n + 1) (rest_whole (read_of files (source_of n v)) (read_of files (sources_from (n + 1) vs)) parts) i w there
 
-  due_of : (command : Command) → read_of files (sources_of command) ≡ Whole → (d : Due) × IsDueOf command files d
-  due_of (Boxes input) whole = (due_of_rows (walk_at (bytes_in files input)), refl)
-  due_of (ListFile input) whole = due_of_file IsDueOfList (λ s valid. (said (listing_text s), refl)) (bytes_in files input) (good_first 0 input Whole whole)
-  due_of (CheckFile input) whole = due_of_file (IsDueOfCheck (bytes_in files input)) (check_due (bytes_in files input)) (bytes_in files input)
+  due_of : (command : Command) → IsCommand command → read_of files (sources_of command) ≡ Whole → (d : Due) × IsDueOf command files d
+  due_of (Boxes input) is whole = (due_of_rows (walk_at (bytes_in files input)), refl)
+  due_of (ListFile input) is whole = due_of_file IsDueOfList (λ s valid. (said (listing_text s), refl)) (bytes_in files input) (good_first 0 input Whole whole)
+  due_of (CheckFile input) is whole = due_of_file (IsDueOfCheck (bytes_in files input)) (check_due (bytes_in files input)) (bytes_in files input)
       (good_first 0 input Whole whole)
-  due_of (Extract input id out) whole = due_of_file (IsDueOfExtract id out) (λ s valid. extract_due id out s) (bytes_in files input)
+  due_of (Extract input id out) is whole = due_of_file (IsDueOfExtract id out) (λ s valid. extract_due id out s) (bytes_in files input)
       (good_first 0 input Whole whole)
-  due_of (EditFile input out edits) whole =
+  due_of (EditFile input out edits) is whole =
       let rest = read_of files (sources_from 1 edits) in
       let first = readable 0 (file_in files input) in
       due_of_file (IsDueOfEdits (map (sourced files) edits) out)
       (λ s valid. edits_due out s (map (sourced files) edits) (good_contents edits 1 (rest_whole first rest whole)) valid)
       (bytes_in files input) (good_first 0 input rest whole)
-  due_of (Redact input out bare) whole =
+  due_of (Redact input out bare) is whole =
       due_of_file (IsDueOfRedact bare out) (λ s valid. canon_due out (redacted bare s) (redaction_keeps_validity s bare valid)) (bytes_in files input)
       (good_first 0 input Whole whole)
-  due_of (Trial seed n out) whole = (answered NoMemory, refl)
+  due_of (Trial seed n out) is whole = trial_due seed n out is.1.0 is.1.1
 
-  due_of_read : (command : Command) (r : Readable) → read_of files (sources_of command) ≡ r → IsReadable r → (d : Due) × IsDueOfRead command files r d
-  due_of_read command Missing is readable = absurd readable
-  due_of_read command (Long n) is readable = (answered (TooLong n), refl)
-  due_of_read command Whole is readable = due_of command is
+  due_of_read : (command : Command) → IsCommand command → (r : Readable) → read_of files (sources_of command) ≡ r → IsReadable r
+      → (d : Due) × IsDueOfRead command files r d
+  due_of_read command is Missing found readable = absurd readable
+  due_of_read command is (Long n) found readable = (answered (TooLong n), refl)
+  due_of_read command is Whole found readable = due_of command is found
 
-  pub something_due : (read : Result Command ℕ) → IsDefined read files → (d : Due) × IsDue read files d
-  something_due (Err at) defined = (answered (Usage at), refl)
-  something_due (Ok command) defined = due_of_read command (read_of files (sources_of command)) refl defined
+  pub something_due : (read : Result Command ℕ) → ((command : Command) → read ≡ Ok command → IsCommand command) → IsDefined read files
+      → (d : Due) × IsDue read files d
+  something_due (Err at) is defined = (answered (Usage at), refl)
+  something_due (Ok command) is defined = due_of_read command (is command refl) (read_of files (sources_of command)) refl defined

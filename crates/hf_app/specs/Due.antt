@@ -12,14 +12,15 @@ use Rattle.hf_store.specs.Lists.{IsIn}
 use Rattle.hf_store.specs.Store.{Item, ItemStore, ids_of}
 use Rattle.hf_store.specs.declared.reason.Reason.{Reason}
 use Rattle.hf_text.specs.Listing.{listing_text}
-use Rattle.hf_text.specs.Answers.{check_text}
+use Rattle.hf_text.specs.Answers.{check_text, trial_text}
 use Rattle.hf_text.specs.Texts.{rows_text}
 use Rattle.hf_text.specs.Words.{Command, Boxes, ListFile, CheckFile, Extract, EditFile, Redact, Trial}
 use Rattle.hf_text.specs.declared.outcome.Outcome.{Outcome}
-use Rattle.hf_text.specs.declared.outcome.Outcome.TheVariants.{Done, Usage, Unfit, Refused, NoSuchItem, TooLong, NoMemory}
+use Rattle.hf_text.specs.declared.outcome.Outcome.TheVariants.{Done, Usage, Unfit, Refused, NoSuchItem, TooLong}
 use Rattle.hf_app.specs.Edits.{AreAccepted, AreRefused, AreUnfit}
 use Rattle.hf_app.specs.Opening.{IsOpened}
 use Rattle.hf_app.specs.Sources.{Sourced, Readable, Missing, Long, Whole, IsReadable, bytes_in, read_of, sourced, sources_of}
+use Rattle.hf_app.specs.Trials.{AreTrialFiles, numbers_of}
 
 pub record Due : Type 0 where
   pub outcome : Outcome
@@ -38,6 +39,10 @@ said text = record { outcome = Done; makes = None; says = text }
 -- a file is made
 abbrev pub made : List ℕ → List ℕ → Due
 made out bytes = record { outcome = Done; makes = Some (out, bytes); says = [] }
+
+-- a file is made, and a text is said
+abbrev pub made_saying : List ℕ → List ℕ → List ℕ → Due
+made_saying out bytes text = record { outcome = Done; makes = Some (out, bytes); says = text }
 
 -- ---- what is due of the bytes of an input
 
@@ -84,6 +89,14 @@ IsDueOfEdits edits out s d =
     ⊎ ((n : ℕ) × (reason : Reason) × AreRefused s edits n reason × (d ≡ answered (Refused n reason)))
     ⊎ ((after : ItemStore) × AreAccepted s edits after × IsDueOfCanon out after d)
 
+-- ---- what is due of a command that reads no file
+
+-- the canonical file of the trial is made, and its numbers are said, with those of what a redaction leaves of it
+abbrev pub IsDueOfTrial : ℕ → ℕ → List ℕ → Due → Type 0
+IsDueOfTrial seed n out d =
+    (file : List ℕ) × (kept : List ℕ) × AreTrialFiles seed n file kept
+    × (d ≡ made_saying out file (trial_text (numbers_of seed n file kept)))
+
 -- ---- what is due of a command
 
 -- where the files that it reads are read whole
@@ -94,8 +107,7 @@ IsDueOf (CheckFile input) files d = IsDueOfFile (IsDueOfCheck (bytes_in files in
 IsDueOf (Extract input id out) files d = IsDueOfFile (IsDueOfExtract id out) (bytes_in files input) d
 IsDueOf (EditFile input out edits) files d = IsDueOfFile (IsDueOfEdits (map (sourced files) edits) out) (bytes_in files input) d
 IsDueOf (Redact input out bare) files d = IsDueOfFile (IsDueOfRedact bare out) (bytes_in files input) d
--- not made yet
-IsDueOf (Trial seed n out) files d = d ≡ answered NoMemory
+IsDueOf (Trial seed n out) files d = IsDueOfTrial seed n out d
 
 -- by whether they are
 abbrev pub IsDueOfRead : Command → Option Files → Readable → Due → Type 0

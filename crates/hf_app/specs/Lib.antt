@@ -7,3 +7,4 @@ pub mod Reads
 pub mod Redactions
 pub mod Sources
 pub mod Stops
+pub mod Trials

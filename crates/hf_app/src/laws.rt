@@ -17,10 +17,11 @@ ghost use Rattle.hf_app.specs.Edits.{IsEdited};
 ghost use Rattle.hf_app.specs.Opening.{IsOpened};
 ghost use Rattle.hf_app.specs.Redactions.{IsForgotten, IsRedacted};
 ghost use Rattle.hf_app.specs.Sources.{Sourced, Whole, read_of, sourced, sources_of};
-ghost use Rattle.hf_text.specs.Answers.{check_text};
+ghost use Rattle.hf_app.specs.Trials.{AreTrialFiles, numbers_of};
+ghost use Rattle.hf_text.specs.Answers.{check_text, trial_text};
 ghost use Rattle.hf_text.specs.Listing.{listing_text};
 ghost use Rattle.hf_text.specs.declared.outcome.Outcome.TheVariants.{Done};
-ghost use Rattle.hf_text.specs.Words.{Command, CheckFile, Extract, ListFile, EditFile, EditWord, Redact};
+ghost use Rattle.hf_text.specs.Words.{Command, CheckFile, Extract, ListFile, EditFile, EditWord, Redact, Trial, command_read};
 
 /// Whatever is due of words and files, nothing else is.
 pub fn one_thing_is_due()
@@ -30,9 +31,9 @@ pub fn one_thing_is_due()
 /// Something is due wherever the words are no command, or no file that the command reads is missing
 /// before one is too long, whatever bytes the files have.
 pub fn something_is_due()
-    ensures { (read : Result Command ℕ) (files : Stated Files)
+    ensures { (words : List (List ℕ)) (files : Stated Files)
         → ((told : Files) (name file : List ℕ) → files ≡ Some told → file_of told name ≡ Some file → IsBytes file)
-        → IsDefined read files → (d : Due) × IsDue read files d }
+        → IsDefined (command_read words) files → (d : Due) × IsDue (command_read words) files d }
 {}
 
 /// Where `list` ends `Done` and the files are told, the input is there and denotes a store, and what
@@ -76,6 +77,14 @@ pub fn edit_makes_the_one_canonical_file()
 pub fn redact_makes_the_one_canonical_file()
     ensures { (input out : List ℕ) (bare : Bool) (old new : Outside) → Ends (Redact input out bare) Done old new
         → IfTold old input (λ file. (bytes : List ℕ) × IsRedacted file bare bytes × IsMade old out bytes new) }
+{}
+
+/// Where `trial` ends `Done`, the file made is the one canonical file of the trial, and denotes it, and
+/// what was said are its numbers and those of what a redaction leaves of it.
+pub fn trial_makes_the_trial()
+    ensures { (seed n : ℕ) (out : List ℕ) (old new : Outside) → Ends (Trial seed n out) Done old new
+        → (file : List ℕ) × (kept : List ℕ) × AreTrialFiles seed n file kept × IsMade old out file new
+        × Said old (trial_text (numbers_of seed n file kept)) new }
 {}
 
 /// Of a redacted file nothing tells of an edit that the redaction forgets: two inputs, of which one

@@ -15,6 +15,7 @@ mod redacting;
 mod sources;
 mod stopping;
 mod top;
+mod trial;
 mod words;
 
 pub use editing::edited;
@@ -22,6 +23,7 @@ pub use hf_text::{
     Command, EditWord, Outcome, WordsFault, line_of, read_words, say_check, say_list, say_rows,
     status,
 };
+pub use hf_trial::{trial_buffer, trial_store};
 pub use making::make_canonical;
 pub use stopping::Stop;
 pub use top::run;

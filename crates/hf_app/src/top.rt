@@ -12,6 +12,7 @@ use crate::edit::edit_file;
 use crate::extract::extract_item;
 use crate::list::say_items;
 use crate::redacting::redact_file;
+use crate::trial::make_trial;
 use crate::words::word;
 use hf_desk::Desk;
 use hf_text::{Command, Outcome, WordsFault, read_words};
@@ -47,7 +48,7 @@ fn answer<D: Desk>(alloc: Global, words: &[String], command: &Command, desk: &mu
         Command::Redact { input, out, bare } => {
             redact_file(alloc, word(words, *input), word(words, *out), *bare, desk)
         }
-        Command::Trial { .. } => Outcome::NoMemory,
+        Command::Trial { seed, n, out } => make_trial(alloc, *seed, *n, word(words, *out), desk),
     }
 }
 
@@ -66,7 +67,7 @@ pub fn run<D: Desk>(alloc: Global, words: &[String], desk: &mut D) -> Outcome
     // there, where they are told, up to one that is too long, and the answer is due of them. For
     // `edit` that answers Done: the input denotes a store, and the file made is the one canonical file
     // of that store after all edits in order, and denotes it. For `redact` it is that of the redacted
-    // store. The laws say so of each command.
+    // store, and for `trial` that of the trial, whose numbers were said. The laws say so of each command.
     ensures headline { (command : Words) → command_read (map string_bytes words.now) ≡ Ok command
         → Ends command result (D.outside desk.old) (D.outside desk.new) }
     // Where something is due, it is the answer; Done made and said all of it, WriteFault a front.
