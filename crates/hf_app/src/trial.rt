@@ -83,9 +83,9 @@ pub fn make_trial<D: Desk>(alloc: Global, seed: u32, n: u32, out: &str, desk: &m
     let Ok((store, plan, numbers)) = planned(alloc, seed, n, &buffer) else {
         return Outcome::NoMemory;
     };
-    if make_canonical(&store, &plan, out, desk).is_err() {
+    let Ok(()) = make_canonical(&store, &plan, out, desk) else {
         return Outcome::WriteFault;
-    }
+    };
     match say_trial(&numbers, desk) {
         Ok(()) => Outcome::Done,
         Err(_) => Outcome::WriteFault,

@@ -2,8 +2,8 @@ use Rattle.std.proofs.Common.{rules}
 use Rattle.hf_app.proofs.Trials.{trial_done, trial_unmade, trial_unsaid}
 use Rattle.hf_app.proofs.trial.make_trial.Goals as goal
 
-pub returns-then-is_err-clause-ends : goal.returns-then-is_err-clause-ends
-returns-then-is_err-clause-ends g c =
+pub returns-in_default-make_canonical-clause-ends : goal.returns-in_default-make_canonical-clause-ends
+returns-in_default-make_canonical-clause-ends g c =
     let makes = c.make_canonical.ensures in
     let trial = c.in-Ok-planned.ensures in
     trial_unmade c.args.seed c.args.n c.args.out.now _ _ _ trial makes.file makes.canonical (g.D.Desk.outside c.args.desk.now) _ makes.makes.only (search rules)
