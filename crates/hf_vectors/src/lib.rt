@@ -3,10 +3,6 @@
 #![tactic(auto)]
 
 #[cfg(test)]
-mod added;
-#[cfg(test)]
-mod applied;
-#[cfg(test)]
 mod large;
 #[cfg(test)]
 mod making;
@@ -14,10 +10,6 @@ mod making;
 mod parts;
 #[cfg(test)]
 mod photograph;
-#[cfg(test)]
-mod pictures;
-#[cfg(test)]
-mod redacted;
 #[cfg(test)]
 mod refused;
 #[cfg(test)]
