@@ -6,7 +6,6 @@ pub mod Faults
 pub mod Forgetting
 pub mod Headlines
 pub mod OneDue
-pub mod Pieces
 pub mod Reading
 pub mod Redacted
 pub mod SomethingDue

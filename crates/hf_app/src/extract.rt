@@ -1,7 +1,6 @@
 //! `extract IN ID OUT`: a file of the bytes of an item is made.
 
-ghost use Rattle.std.specs.Prelude.{◌≡◌, ℕ, true, false};
-ghost use Rattle.hf_desk.specs.Calls.{Puts};
+ghost use Rattle.std.specs.Prelude.{◌≡◌, ℕ, false};
 ghost use Rattle.hf_desk.specs.Making.{Makes};
 ghost use Rattle.hf_pieces.specs.Bytes.{joined};
 ghost use Rattle.hf_text.specs.Words.{Extract};
@@ -10,21 +9,11 @@ ghost use Rattle.hf_app.specs.Answers.{Ends, IsQuiet, HasCause, IsSteady, Stays}
 use crate::input::read_input;
 use crate::opening::opened;
 use crate::stopping::{refused, stopped};
-use hf_desk::{Desk, Failed, WriteFault, put_all};
+use hf_desk::{Desk, Failed, WriteFault};
 use hf_pieces::Pieces;
 use hf_text::Outcome;
+use hf_write::put_pieces;
 use std::alloc::Global;
-
-/// Puts pieces as they lie.
-fn put_pieces<D: Desk>(pieces: &Pieces<'_>, desk: &mut D) -> Result<(), WriteFault>
-    requires { (D.outside desk.old).creating ≡ true }
-    ensures { Puts (D.outside desk.old) (joined pieces.now) result (D.outside desk.new) }
-{
-    for i in 0..pieces.count() {
-        put_all(desk, pieces.piece(i))?;
-    }
-    Ok(())
-}
 
 /// Makes a file of these pieces, under a name that is new.
 fn make_pieces<D: Desk>(pieces: &Pieces<'_>, name: &str, desk: &mut D) -> Result<(), WriteFault>

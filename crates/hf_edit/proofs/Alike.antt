@@ -11,8 +11,8 @@ use Rattle.hf_store.specs.Lists.{IsIn, RisesFrom}
 use Rattle.hf_store.specs.Store.{Item, ItemStore, ids_of}
 use Rattle.hf_store.specs.Table.{table_of}
 use Rattle.hf_store.specs.Valid.{body_sum, IsGoodItem, meta_len, Valid}
+use Rattle.hf_order.proofs.Members.{all_from, from_map, in_all}
 use Rattle.hf_edit.proofs.Goods.{AreGoodProps, good_changed, all_good_groups}
-use Rattle.hf_edit.proofs.Members.{all_in, in_all, map_in}
 
 -- the same item but for its mark and its properties
 pub record IsAlike (i j : Item) : Type 0 where
@@ -65,12 +65,12 @@ module _ (f : Item → Item) (alike : (i : Item) → IsAlike i (f i)) where
     good_alike : (i : Item) → IsIn i s.items → IsGoodItem (map f s.items) (f i)
     good_alike i there =
         subst (IsGoodItem (map f s.items)) (sym (alike i).same)
-        (good_changed s.items (map f s.items) more i (f i).hidden (f i).props (in_all (IsGoodItem s.items) s.items i valid.items there) (good i there))
+        (good_changed s.items (map f s.items) more i (f i).hidden (f i).props (in_all (IsGoodItem s.items) s.items valid.items i there) (good i there))
 
     pub items_good : AllByRecursion (IsGoodItem (map f s.items)) (map f s.items)
     items_good =
-        all_in (IsGoodItem (map f s.items)) (map f s.items)
-        (λ j there. let from = map_in f j s.items there in subst (IsGoodItem (map f s.items)) from.2 (good_alike from.0 from.1))
+        all_from (IsGoodItem (map f s.items)) (map f s.items)
+        (λ j there. let from = from_map f s.items j there in subst (IsGoodItem (map f s.items)) from.2 (good_alike from.0 from.1))
 
     pub valid_alike : length (table_of (record s { items = map f s.items })) ≤ limits.KINDS → meta_len (record s { items = map f s.items }) ≤ limits.META
         → Valid (record s { items = map f s.items })

@@ -23,7 +23,8 @@ use Rattle.hf_edit.specs.Additions.{exif_item, greatest_id, item_with, next_id_o
 use Rattle.hf_edit.specs.Edits.{is_derived, primary_is, with_thumbnail}
 use Rattle.hf_edit.specs.Left.{MetadataHasNoProps}
 use Rattle.hf_edit.proofs.Added.{AreKept, greatest_id_fits, le-greatest_id, valid_added}
-use Rattle.hf_edit.proofs.Members.{in_all, none_passes}
+use Rattle.hf_order.proofs.Members.{in_all}
+use Rattle.hf_edit.proofs.Members.{none_passes}
 
 -- ---- the id, and the limits
 
@@ -150,7 +151,7 @@ module _ (s : ItemStore) (id : ℕ) (there : IsIn id (ids_of s.items)) (fits : g
   valid_thumbnail donor None is valid good plain kept = valid
   valid_thumbnail donor (Some picture) is valid good plain kept =
       let from = item_found donor.primary donor.items picture is in
-      let good_picture = in_all (IsGoodItem donor.items) donor.items picture good.items from.0 in
+      let good_picture = in_all (IsGoodItem donor.items) donor.items good.items picture from.0 in
       valid_more (thumbnail_item picture id (greatest_id s + 1)) valid refl refl
       (good_thumbnail donor.items picture good_picture (found_fails is_derived donor picture is plain))
       kept

@@ -4,41 +4,14 @@ use Rattle.std.specs.List.{AllByRecursion, list_any}
 use Rattle.std.proofs.lemmas.Bool.{cases_Bool, or_parts}
 use Rattle.hf_store.specs.Lists.{IsIn}
 
-pub in_map : {A B : Type 0} (f : A → B) (x : A) (xs : List A) → IsIn x xs → IsIn (f x) (map f xs)
-in_map f x [] h = absurd h
-in_map f x (y ∷ ys) (inl e) = inl (ap f e)
-in_map f x (y ∷ ys) (inr h) = inr (in_map f x ys h)
-
-pub map_in : {A B : Type 0} (f : A → B) (y : B) (xs : List A) → IsIn y (map f xs) → (x : A) × IsIn x xs × (f x ≡ y)
-map_in f y [] h = absurd h
-map_in f y (x ∷ xs) (inl e) = (x, inl refl, e)
-map_in f y (x ∷ xs) (inr h) = let later = map_in f y xs h in (later.0, inr later.1, later.2)
-
-pub in_filter : {A : Type 0} (test : A → Bool) (x : A) (xs : List A) → test x ≡ true → IsIn x xs → IsIn x (filter test xs)
-in_filter test x [] e h = absurd h
-in_filter test x (y ∷ ys) e (inl same) = rw (ap test same ∙ e) (inl same)
-in_filter test x (y ∷ ys) e (inr h) =
-    let later = in_filter test x ys e h in
+pub passing_in : {A : Type 0} (test : A → Bool) (x : A) (xs : List A) → test x ≡ true → IsIn x xs → IsIn x (filter test xs)
+passing_in test x [] e h = absurd h
+passing_in test x (y ∷ ys) e (inl same) = rw (ap test same ∙ e) (inl same)
+passing_in test x (y ∷ ys) e (inr h) =
+    let later = passing_in test x ys e h in
     elim (test y) as (λ b. IsIn x (cond b (y ∷ filter test ys) (filter test ys))) [ true ↦ inr later | false ↦ later ]
 
-pub filter_in : {A : Type 0} (test : A → Bool) (x : A) (xs : List A) → IsIn x (filter test xs) → IsIn x xs
-filter_in test x [] h = h
-filter_in test x (y ∷ ys) h =
-    elim (cases_Bool (test y)) [
-      | inl here ↦ let front : IsIn x (y ∷ filter test ys) = rw here at h in elim front [ inl e ↦ inl e | inr later ↦ inr (filter_in test x ys later) ]
-      | inr gone ↦ let rest : IsIn x (filter test ys) = rw gone at h in inr (filter_in test x ys rest)
-    ]
-
 -- ---- facts of all
-
-pub all_in : {A : Type 0} (P : A → Type 0) (xs : List A) → ((x : A) → IsIn x xs → P x) → AllByRecursion P xs
-all_in P [] each = tt
-all_in P (x ∷ xs) each = (each x (inl refl), all_in P xs (λ y h. each y (inr h)))
-
-pub in_all : {A : Type 0} (P : A → Type 0) (xs : List A) (x : A) → AllByRecursion P xs → IsIn x xs → P x
-in_all P [] x all h = absurd h
-in_all P (y ∷ ys) x all (inl e) = subst P e all.0
-in_all P (y ∷ ys) x all (inr h) = in_all P ys x all.1 h
 
 pub all_same : {A : Type 0} (Q P : A → Type 0) (xs : List A) → AllByRecursion Q xs → ((x : A) → Q x → P x) → AllByRecursion P xs
 all_same Q P [] all each = tt

@@ -12,9 +12,10 @@ use Rattle.hf_store.specs.Table.{table_of}
 use Rattle.hf_store.specs.Valid.{IsFour, IsGoodItem, meta_len, Valid}
 use Rattle.hf_edit.specs.Edits.{item_is, reshaped, with_item}
 use Rattle.hf_edit.specs.Pictures.{all_but_last, cropped, cropped_in, essential, last_axis, last_turn, mirrored, mirrored_behind, picture_size_of, rotated, rotated_behind, turn_unless_none}
+use Rattle.hf_order.proofs.Members.{in_all, in_map}
 use Rattle.hf_edit.proofs.Alike.{IsAlike, valid_alike}
 use Rattle.hf_edit.proofs.Goods.{AreGoodProps}
-use Rattle.hf_edit.proofs.Members.{all_append, all_take, in_all, in_map, none_passes}
+use Rattle.hf_edit.proofs.Members.{all_append, all_take, none_passes}
 
 -- ---- the types of the properties have four bytes
 
@@ -83,11 +84,11 @@ module _ (s : ItemStore) (id : ℕ) (props : Item → List Held) (valid : Valid 
   module _ (four : (i : Item) → AreFourHeld i.props → AreFourHeld (props i)) (room : item_is is_full id (with_item id (reshaped props) s) ≡ false) where
     good_props : (i : Item) → IsIn i s.items → AreGoodProps (new i).props
     good_props i there =
-        let good = in_all (IsGoodItem s.items) s.items i valid.items there in
+        let good = in_all (IsGoodItem s.items) s.items valid.items i there in
         elim (cases_Bool (i.id == id)) [
           | inl same ↦
               let is : new i ≡ reshaped props i = cond-true (i.id == id) (reshaped props i) i same in
-              let now = subst (λ (j : Item). IsIn j (map new s.items)) is (in_map new i s.items there) in
+              let now = subst (λ (j : Item). IsIn j (map new s.items)) is (in_map new s.items i there) in
               let passes = none_passes (λ (j : Item). (j.id == id) && is_full j) (map new s.items) (reshaped props i) room now in
               let few = few_props (i.id == id) (length (props i)) same passes in
               subst (λ (j : Item). AreGoodProps j.props) (sym is) (record { few = few; kinds = four i good.prop_kinds })

@@ -21,7 +21,7 @@ use Rattle.hf_edit.specs.Pictures.{cropped, mirrored, rotated}
 use Rattle.hf_edit.proofs.Coming.{good_exif, good_xmp, kept, next_fits, valid_more, valid_thumbnail}
 use Rattle.hf_edit.proofs.Free.{IsFree, is_free}
 use Rattle.hf_edit.proofs.Named.{is_somewhere, with_item_at}
-use Rattle.hf_edit.proofs.Parts.{IsPart, filter-all, valid_parts}
+use Rattle.hf_deps.proofs.Parts.{IsPart, filter-all, valid_parts}
 use Rattle.hf_edit.proofs.Reshaped.{four_cropped, four_mirrored, four_rotated, valid_reshaped}
 
 -- ---- another primary item

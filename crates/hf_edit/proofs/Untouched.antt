@@ -3,7 +3,7 @@ use Rattle.std.proofs.Common.{◌≡◌, ◌+◌, ℕ, Bool, true, false, not, c
 use Rattle.std.specs.Prelude.{◌==◌}
 use Rattle.std.proofs.lemmas.Bool.{cases_Bool}
 use Rattle.std.proofs.lemmas.List.{append-nil, map-append}
-use Rattle.hf_order.proofs.Members.{in_back, in_front, in_joined}
+use Rattle.hf_order.proofs.Members.{from_map, in_back, in_filter, in_front, in_joined, in_map}
 use Rattle.hf_store.specs.Changes.{cut, cut_item, cut_refs, hide, is_other, lacking}
 use Rattle.hf_store.specs.Lists.{IsIn, not_empty}
 use Rattle.hf_store.specs.Store.{Held, Item, ItemStore, ids_of}
@@ -12,7 +12,7 @@ use Rattle.hf_edit.specs.Additions.{greatest_id, primary_item}
 use Rattle.hf_edit.specs.Edits.{Edit, Remove, AddExif, AddXmp, Thumb, Primary, Rotate, Mirror, Crop, Hide, Show, Drop, reshaped, step, with_thumbnail}
 use Rattle.hf_edit.specs.Left.{AddedItemsCome, AreGroupsLeft, AreLeft, IsLeft, IsPrimaryLeft, Marks, NoItemComes, Reshapes, RestStays, Takes, UntouchedItemsStay, coming, ids_without, refs_without, thumbnail_coming}
 use Rattle.hf_edit.specs.Pictures.{cropped, mirrored, rotated}
-use Rattle.hf_edit.proofs.Members.{filter_in, in_filter, in_map, map_in}
+use Rattle.hf_edit.proofs.Members.{passing_in}
 use Rattle.hf_edit.proofs.Named.{differ}
 
 -- ---- references
@@ -169,7 +169,7 @@ items-step s (Drop id kind) = with_none (map (left (Drop id kind)) s.items)
 in_staying : (e : Edit) (i : Item) (is : List Item) → IsIn i is → (Takes e i.id → ⊥) → IsIn i (staying e is)
 in_staying (Remove id) i is there stays =
     let other : is_other id i.id ≡ true = ap not (differ i.id id stays) in
-    in_filter (λ (j : Item). is_other id j.id) i is other there
+    passing_in (λ (j : Item). is_other id j.id) i is other there
 in_staying (AddExif id tiff) i is there stays = there
 in_staying (AddXmp id text) i is there stays = there
 in_staying (Thumb id donor) i is there stays = there
@@ -182,7 +182,7 @@ in_staying (Show id) i is there stays = there
 in_staying (Drop id kind) i is there stays = there
 
 staying_in : (e : Edit) (i : Item) (is : List Item) → IsIn i (staying e is) → IsIn i is
-staying_in (Remove id) i is there = filter_in (λ (j : Item). is_other id j.id) i is there
+staying_in (Remove id) i is there = in_filter (λ (j : Item). is_other id j.id) is i there
 staying_in (AddExif id tiff) i is there = there
 staying_in (AddXmp id text) i is there = there
 staying_in (Thumb id donor) i is there = there
@@ -199,7 +199,7 @@ staying_in (Drop id kind) i is there = there
 pub untouched_items_stay : UntouchedItemsStay
 untouched_items_stay s e i there stays =
     let kept = map (left e) (staying e s.items) in
-    let front = in_front (left e i) kept (coming s e) (in_map (left e) i (staying e s.items) (in_staying e i s.items there stays)) in
+    let front = in_front (left e i) kept (coming s e) (in_map (left e) (staying e s.items) i (in_staying e i s.items there stays)) in
     (left e i, subst (IsIn (left e i)) (sym (items-step s e)) front, is_left e i)
 
 pub added_items_come : AddedItemsCome
@@ -209,7 +209,7 @@ pub no_item_comes : NoItemComes
 no_item_comes s e j there =
     elim (in_joined j (map (left e) (staying e s.items)) (coming s e) (subst (IsIn j) (items-step s e) there)) [
       | inl old ↦
-          let from = map_in (left e) j (staying e s.items) old in
+          let from = from_map (left e) (staying e s.items) j old in
           inl (from.0, staying_in e from.0 s.items from.1, subst (IsLeft e from.0) from.2 (is_left e from.0))
       | inr new ↦ inr new
     ]

@@ -3,6 +3,10 @@
 #![tactic(auto)]
 
 #[cfg(test)]
+mod added;
+#[cfg(test)]
+mod applied;
+#[cfg(test)]
 mod large;
 #[cfg(test)]
 mod making;
@@ -10,6 +14,10 @@ mod making;
 mod parts;
 #[cfg(test)]
 mod photograph;
+#[cfg(test)]
+mod pictures;
+#[cfg(test)]
+mod redacted;
 #[cfg(test)]
 mod refused;
 #[cfg(test)]

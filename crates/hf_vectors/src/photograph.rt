@@ -1,6 +1,6 @@
 //! A photograph as a phone writes it: 48 hidden tiles, a grid in `idat`, a thumbnail, Exif and XMP.
 
-use crate::making::{put_box, words_of};
+use crate::making::{put_box, put_place, words_of};
 use crate::parts::{HDLR, ONE};
 use hf_app::run;
 use hf_base::ReadRefusal;
@@ -11,7 +11,7 @@ use std::alloc::Global;
 use std::test::Fail;
 
 /// How many tiles there are.
-const TILES: u16 = 48;
+pub const TILES: u16 = 48;
 
 /// `iinf`: the tiles, the grid, the thumbnail, Exif and XMP.
 fn put_iinf(meta: &mut Vec<u8>, alloc: Global) -> Result<(), Fail> {
@@ -69,15 +69,6 @@ fn put_iprp(meta: &mut Vec<u8>, alloc: Global) -> Result<(), Fail> {
     put_box(meta, b"iprp", &[&body])
 }
 
-/// Puts an entry of `iloc`: a place in the file, or in `idat`.
-fn put_place(body: &mut Vec<u8>, id: u16, method: u8, place: u32, size: u32) -> Result<(), Fail> {
-    body.extend_from_slice(&id.to_be_bytes())?;
-    body.extend_from_slice(&[0, method, 0, 0, 0, 1])?;
-    body.extend_from_slice(&place.to_be_bytes())?;
-    body.extend_from_slice(&size.to_be_bytes())?;
-    Ok(())
-}
-
 /// `iloc`, by rising id, where the bytes in `mdat` begin at a place: 30 of the XMP, 20 of the Exif, 200 of
 /// the thumbnail, and those of the tiles.
 fn put_iloc(meta: &mut Vec<u8>, alloc: Global, data: u32) -> Result<(), Fail> {
@@ -116,7 +107,7 @@ fn put_bodies(file: &mut Vec<u8>) -> Result<(), Fail> {
 }
 
 /// The photograph, whose grid is made of so many tiles; with all of them it has 8,888 bytes.
-fn photograph(alloc: Global, tiles: u16) -> Result<Vec<u8>, Fail> {
+pub fn photograph(alloc: Global, tiles: u16) -> Result<Vec<u8>, Fail> {
     let mut meta = Vec::from_slice(alloc, b"\0\0\0\0")?;
     meta.extend_from_slice(HDLR)?;
     meta.extend_from_slice(

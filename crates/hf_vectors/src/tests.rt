@@ -130,7 +130,7 @@ fn bytes_of_other_items_stay(rt: HostRuntime) -> Result<(), Fail> {
 
 /// A file of one item that holds so many properties of one byte each, each of its own, in the form
 /// that is canonical, whose length this is.
-fn with_properties(alloc: Global, count: u8) -> Result<Vec<u8>, Fail> {
+pub fn with_properties(alloc: Global, count: u8) -> Result<Vec<u8>, Fail> {
     let mut ipco = Vec::new(alloc);
     let mut row = Vec::from_slice(alloc, b"\0\x01")?;
     row.push(count)?;

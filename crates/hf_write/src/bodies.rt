@@ -2,6 +2,7 @@
 
 ghost use Rattle.std.specs.Prelude.{◌≡◌, true};
 ghost use Rattle.std.specs.List.{flat_map};
+ghost use Rattle.hf_desk.specs.Calls.{Puts};
 ghost use Rattle.hf_desk.specs.Outside.{Outside};
 ghost use Rattle.hf_desk.specs.Pages.{ByPut, Gives};
 ghost use Rattle.hf_pieces.specs.Bytes.{joined};
@@ -25,6 +26,17 @@ fn give_pieces<D: Desk>(
         page.give(pieces.piece(i), desk)?;
     }
     Ok(())
+}
+
+/// Appends these bytes to the file that the desk made. `WriteFault` comes only where `write_faults`
+/// rose; then some front of them was appended. It takes no memory.
+pub fn put_pieces<D: Desk>(pieces: &Pieces<'_>, desk: &mut D) -> Result<(), WriteFault>
+    requires { (D.outside desk.old).creating ≡ true }
+    ensures { Puts (D.outside desk.old) (joined pieces.now) result (D.outside desk.new) }
+{
+    let mut page = Page::new();
+    give_pieces(pieces, &mut page, desk)?;
+    page.end(desk)
 }
 
 /// Gives the bytes of an item that stands in `idat`, where `inner`, or in `mdat`, where not; of another

@@ -15,5 +15,6 @@ mod iref;
 mod matching;
 mod mdat;
 
+pub use bodies::put_pieces;
 pub use file::write;
 pub use matching::same;

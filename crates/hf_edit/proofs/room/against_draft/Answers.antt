@@ -6,7 +6,7 @@ use Rattle.hf_store.specs.Table.{table_of}
 use Rattle.hf_store.specs.Valid.{body_sum, meta_len}
 use Rattle.hf_edit.specs.Additions.{greatest_id, with_next}
 use Rattle.hf_edit.specs.Seen.{draft_of}
-use Rattle.hf_edit.proofs.Full.{body_full, body_sum-added, four_refs, length-added, meta_full_added, room_left_added}
+use Rattle.hf_edit.proofs.Limits.{body_full, body_sum-added, four_refs, length-added, meta_full_added, room_left_added}
 use Rattle.hf_edit.proofs.Makes.{added_next}
 use Rattle.hf_edit.proofs.room.against_draft.Goals as goal
 

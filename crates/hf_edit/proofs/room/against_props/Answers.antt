@@ -5,7 +5,7 @@ use Rattle.hf_store.specs.Changes.{with_props}
 use Rattle.hf_store.specs.Room.{props_with}
 use Rattle.hf_store.specs.Seen.{item_of}
 use Rattle.hf_store.specs.Table.{table_of}
-use Rattle.hf_edit.proofs.Full.{kinds_full, length-props_with, meta_full, props_full, room_left}
+use Rattle.hf_edit.proofs.Limits.{kinds_full, length-props_with, meta_full, props_full, room_left}
 use Rattle.hf_edit.proofs.room.against_props.Goals as goal
 
 -- n properties are those that are left and more, against the limit

@@ -1,0 +1,6 @@
+use Rattle.std.proofs.Common.{◌≡◌, false}
+use Rattle.hf_desk.specs.Memory.{memory_outside}
+use Rattle.hf_vectors.proofs.making.desk_of.Given as goal
+
+abbrev pub invariant-loop-desk : goal.invariant-loop-desk
+invariant-loop-desk l = (memory_outside l.desk).creating ≡ false
