@@ -25,14 +25,29 @@ def entries_of(ids):
     return box(b"iinf", full(0) + u16(len(ids)) + entries)
 
 
-def references_of(ids):
-    """`iref`: each item but the first one describes the first."""
-    return box(b"iref", full(0) + b"".join(box(b"cdsc", u16(i) + u16(1) + u16(1)) for i in ids if i != 1))
+def references_of(kind, pairs):
+    """`iref`: a reference of this type for each pair, from the one to the other."""
+    return box(b"iref", full(0) + b"".join(box(kind, u16(one) + u16(1) + u16(other)) for one, other in pairs))
 
 
-def chain_of(ids):
-    """`iref`: each item but the last one needs the next one."""
-    return box(b"iref", full(0) + b"".join(box(b"prem", u16(i) + u16(1) + u16(i + 1)) for i in ids if i != len(ids)))
+def none(ids):
+    """No references."""
+    return b""
+
+
+def star(ids):
+    """Each item but the first one describes the first."""
+    return references_of(b"cdsc", [(i, 1) for i in ids if i != 1])
+
+
+def row(ids):
+    """Each item but the last one describes the next."""
+    return references_of(b"cdsc", [(i, i + 1) for i in ids if i != len(ids)])
+
+
+def chain(ids):
+    """Each item but the last one needs the next."""
+    return references_of(b"prem", [(i, i + 1) for i in ids if i != len(ids)])
 
 
 def properties_of(ids, kinds):
@@ -44,10 +59,9 @@ def properties_of(ids, kinds):
     return box(b"iprp", box(b"ipco", boxes) + box(b"ipma", full(0, 1) + u32(len(ids)) + rows))
 
 
-def write(name, sizes, kinds=0, linked=False, extents=1, chained=False):
+def write(name, sizes, kinds=0, extents=1, links=none):
     """A file of items of these sizes, in the order of falling ids; how many boxes, items, extents,
-    associations and references it has. They describe the first item where they are linked, and each
-    needs the next one where they are chained."""
+    associations and references it has."""
     count = len(sizes)
     ids = range(count, 0, -1)
     head = box(b"ftyp", b"heic" + u32(0) + b"mif1heic")
@@ -56,22 +70,21 @@ def write(name, sizes, kinds=0, linked=False, extents=1, chained=False):
         + box(b"hdlr", full(0) + u32(0) + b"pict" + bytes(13))
         + box(b"pitm", full(0) + u16(1))
         + entries_of(ids)
-        + (references_of(ids) if linked else b"")
-        + (chain_of(ids) if chained else b"")
+        + links(ids)
         + properties_of(ids, kinds)
     )
     meta = 8 + len(front) + 8 + 8 + (8 + 8 * extents) * count
     offset = len(head) + meta + 8
-    rows = []
+    entries = []
     for i, size in zip(ids, sizes):
         parts = [size // extents] * (extents - 1)
         parts.append(size - sum(parts))
-        row = u16(i) + u16(0) + u16(0) + u16(extents)
+        entry = u16(i) + u16(0) + u16(0) + u16(extents)
         for part in parts:
-            row += u32(offset) + u32(part)
+            entry += u32(offset) + u32(part)
             offset += part
-        rows.append(row)
-    iloc = box(b"iloc", full(1) + b"\x44\0" + u16(count) + b"".join(rows))
+        entries.append(entry)
+    iloc = box(b"iloc", full(1) + b"\x44\0" + u16(count) + b"".join(entries))
     with open(name, "wb") as file:
         file.write(head + box(b"meta", front + iloc))
         file.write(u32(8 + sum(sizes)) + b"mdat")
@@ -80,6 +93,6 @@ def write(name, sizes, kinds=0, linked=False, extents=1, chained=False):
         while left > 0:
             file.write(chunk[: min(left, len(chunk))])
             left -= len(chunk)
-    references = count - 1 if linked or chained else 0
+    references = 0 if links is none else count - 1
     associations = 2 * count if kinds else 0
     return 10 + count + kinds + references + count + extents * count + associations + references
