@@ -41,7 +41,7 @@ valid_cut stays s valid primary keeps = record {
 abbrev pub dimg : RefList → Bool
 dimg r = is_kind r.kind (four "dimg")
 
-lacks : (id : ℕ) (ids : List ℕ) → (IsIn id ids → ⊥) → filter (is_other id) ids ≡ ids
+pub lacks : (id : ℕ) (ids : List ℕ) → (IsIn id ids → ⊥) → filter (is_other id) ids ≡ ids
 lacks id [] none = refl
 lacks id (x ∷ xs) none =
     elim (cases_Bool (x == id)) [
@@ -49,7 +49,7 @@ lacks id (x ∷ xs) none =
       | inr other ↦ rw other (ap (λ ys. x ∷ ys) (lacks id xs (λ h. none (inr h))))
     ]
 
-some-there : (xs : List ℕ) → 0 < length xs → not_empty xs ≡ true
+pub some-there : (xs : List ℕ) → 0 < length xs → not_empty xs ≡ true
 some-there [] some = absurd (omega arith)
 some-there (x ∷ xs) some = refl
 

@@ -13,6 +13,7 @@ pub mod Few
 pub mod FewCounts
 pub mod FieldLengths
 pub mod Finds
+pub mod KnownIds
 pub mod Lengths
 pub mod Listed
 pub mod Loads
@@ -34,5 +35,6 @@ pub mod Sizes
 pub mod Spots
 pub mod Tables
 pub mod Tallied
+pub mod Targets
 pub mod Uses
 pub mod Wholes

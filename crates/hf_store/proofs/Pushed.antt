@@ -8,13 +8,14 @@ use Rattle.hf_store.specs.Capped.{capped_counts}
 use Rattle.hf_store.specs.Changes.{added}
 use Rattle.hf_store.specs.Counts.{Counts, no_counts, plus, counts_of_item, counts_of_items, counts_of_groups, counts_of}
 use Rattle.hf_store.specs.Kept.{IsKept}
+use Rattle.hf_store.specs.Referred.{HasAll, all_targets}
 use Rattle.hf_store.specs.Seen.{store_of}
-use Rattle.hf_store.specs.Store.{Prop, Held, Item}
+use Rattle.hf_store.specs.Store.{Prop, Held, Item, ItemStore}
 use Rattle.hf_store.specs.Table.{props_of}
 use Rattle.hf_store.specs.Valid.{IsGoodItem, Valid}
 use Rattle.hf_store.specs.declared.store.Store.TheInside.{Inside}
 use Rattle.hf_table.specs.Table.{table, size_sum}
-use Rattle.hf_table.specs.Uses.{IsCount, Tallies, HasRoom}
+use Rattle.hf_table.specs.Uses.{IsCount, Gains, Tallies, HasRoom}
 use Rattle.hf_table.proofs.Rooms.{limits_leave_room}
 use Rattle.hf_table.proofs.Stores.{among-pushed}
 use Rattle.hf_store.proofs.Counted.{summed-append, summed-cons, plus-swap}
@@ -50,3 +51,15 @@ module _ (inside : Inside) (kept : IsKept inside) (x : Item) (valid : Valid (add
       let t = added x (store_of inside) in
       let sum : plus inside.counts (counts_of_item x) ≡ counts_of t = ap (λ c. plus c (counts_of_item x)) kept.counted ∙ sym (counts-pushed (store_of inside).items (counts_of_groups (store_of inside).groups) x) in
       f ∙ ap (λ c. capped_counts (plus inside.counts c)) e ∙ plus-right inside.counts (counts_of_item x) ∙ ap capped_counts sum ∙ few_capped (counts_of t) (counts_few t valid)
+
+-- where nothing changed but that more ids are known, all is kept
+pub still_kept : (inside now : Inside) → store_of now ≡ store_of inside → Gains inside.uses [] now.uses → now.counts ≡ inside.counts
+    → HasAll now.referred inside.referred → IsKept inside → IsKept now
+still_kept inside now same uses counts more kept = record {
+  valid = subst Valid (sym same) kept.valid;
+  tallies =
+      subst (λ (s : ItemStore). Tallies now.uses (flat_map props_of s.items)) (sym same)
+      (record { each = λ q. omega (arith, uses.each q, kept.tallies.each q) });
+  counted = counts ∙ kept.counted ∙ ap counts_of (sym same);
+  referred = subst (λ (s : ItemStore). HasAll now.referred (all_targets s.items)) (sym same) (λ id h. more id (kept.referred id h));
+}

@@ -8,11 +8,12 @@ use Rattle.hf_store.specs.Capped.{capped, capped_counts}
 use Rattle.hf_store.specs.Counts.{Counts, HasCounts, plus, targets_of, counts_of_item, counts_of_items, counts_of_groups, counts_of, with_items}
 use Rattle.hf_store.specs.Kept.{IsKept}
 use Rattle.hf_store.specs.Lists.{RisesFrom}
+use Rattle.hf_store.specs.Referred.{HasAll, HaveTargets, all_targets}
 use Rattle.hf_store.specs.Seen.{item_of, items_of, store_of}
 use Rattle.hf_store.specs.Sizes.{AreFew}
 use Rattle.hf_store.specs.Store.{Item, Group, ItemStore, ids_of}
 use Rattle.hf_store.specs.Table.{props_of}
-use Rattle.hf_store.specs.Valid.{Valid}
+use Rattle.hf_store.specs.Valid.{IsGoodItem, Valid}
 use Rattle.hf_store.specs.declared.item.Item.{Item as CodeItem}
 use Rattle.hf_store.specs.declared.store.Store.TheInside.{Inside}
 use Rattle.hf_table.specs.Uses.{Use, Gains, Tallies, Holds}
@@ -25,6 +26,7 @@ use Rattle.hf_store.proofs.Mapped.{here_at}
 use Rattle.hf_store.proofs.Removals.{others, others-removed}
 use Rattle.hf_store.proofs.Sizes.{sum-map}
 use Rattle.hf_store.proofs.Spots.{at_or, id_here, within_at, get_map}
+use Rattle.hf_store.proofs.Targets.{all_removed, have_targets, targets_removed}
 use Rattle.std.proofs.lemmas.List.{length-map}
 
 pub props-cut : (stays : ℕ → _) (is : List Item) → flat_map props_of (map (cut_item stays) is) ≡ flat_map props_of is
@@ -98,6 +100,15 @@ module _ (inside : Inside) (s : ItemStore) (view : store_of inside ≡ s) (kept 
   -- and the uses without them are those of the others
   pub taken_tallies : (new : List Use) → Gains new (props_of (item_of item)) inside.uses → Tallies new (flat_map props_of (remove (items_of inside.items.items) k))
   taken_tallies new down = tallies-removed props_of inside.uses (items_of inside.items.items) kept.tallies k (item_of item) inner among new down
+
+  -- the ids that references of the others lead to are known
+  pub taken_known : HasAll inside.referred (all_targets (remove (items_of inside.items.items) k))
+  taken_known id h = kept.referred id (targets_removed (items_of inside.items.items) k id h)
+
+  pub taken_targets : HaveTargets (remove (items_of inside.items.items) k)
+  taken_targets =
+      let is = items_of inside.items.items in
+      have_targets is (remove is k) (all_removed (IsGoodItem is) is k kept.valid.items)
 
   unfoldable rest : Counts
   rest = counts_of (with_items (store_of inside) (remove (items_of inside.items.items) k))

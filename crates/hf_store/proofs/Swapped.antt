@@ -9,6 +9,7 @@ use Rattle.hf_store.specs.Capped.{capped, capped_counts}
 use Rattle.hf_store.specs.Changes.{changed_at}
 use Rattle.hf_store.specs.Counts.{Counts, plus, counts_of_item, counts_of, with_items}
 use Rattle.hf_store.specs.Kept.{IsKept}
+use Rattle.hf_store.specs.Referred.{HasAll, all_targets}
 use Rattle.hf_store.specs.Seen.{item_of, items_of, store_of}
 use Rattle.hf_store.specs.Store.{Prop, Held, Item, ItemStore}
 use Rattle.hf_store.specs.Table.{props_of}
@@ -26,6 +27,7 @@ use Rattle.hf_store.proofs.Mapped.{here_at}
 use Rattle.hf_store.proofs.Uses.{all-mapped}
 use Rattle.hf_store.proofs.Removed.{taken_here, taken_exact}
 use Rattle.hf_store.proofs.Spots.{at_or, get_map, holds_here, within_at, some_is}
+use Rattle.hf_store.proofs.Targets.{targets-set}
 
 pub changed_is : {A : Type 0} (f : A → A) (xs : List A) (k : ℕ) (x : A) → slice_get xs k ≡ Some x → set xs k (f x) ≡ changed_at f k xs
 changed_is f [] k x here = absurd cc
@@ -75,6 +77,13 @@ module _ (inside : Inside) (s : ItemStore) (view : store_of inside ≡ s) (kept 
   changed_tallies new us trade =
       subst (λ is. Tallies us (flat_map props_of is)) (sym (map-set item_of inside.items.items k new))
       (tallies-set props_of inside.uses (items_of inside.items.items) kept.tallies k (item_of item) (within_at (items_of inside.items.items) k (item_of item) here) (sym (at_or (items_of inside.items.items) k (item_of item) (item_of item) here)) (item_of new) us trade)
+
+  -- the ids that references lead to are known where the other one has the same references
+  pub changed_targets : (new : CodeItem) → new.refs ≡ item.refs → HasAll inside.referred (all_targets (items_of (set inside.items.items k new)))
+  changed_targets new same =
+      let is = items_of inside.items.items in
+      let told = ap all_targets (map-set item_of inside.items.items k new) ∙ targets-set is k (item_of item) (item_of new) here same in
+      subst (HasAll inside.referred) (sym told) kept.referred
 
   -- its counts give way to those of the other one
   pub changed_counts : (new : CodeItem) → Valid (with_items (store_of inside) (items_of (set inside.items.items k new))) → (left part more all : Counts) → part ≡ capped_counts (counts_of_item (item_of item)) → plus left part ≡ inside.counts

@@ -10,6 +10,7 @@ pub mod Lists
 pub mod Measured
 pub mod Picks
 pub mod References
+pub mod Referred
 pub mod Room
 pub mod Seen
 pub mod Sizes

@@ -4,16 +4,18 @@ ghost use Rattle.std.specs.Prelude.{◌≡◌, length, map, filter};
 ghost use Rattle.std.specs.List.{list_all, sum_by};
 ghost use Rattle.hf_links.specs.Grpl.{group_of, groups_of};
 ghost use Rattle.hf_store.specs.Capped.{capped};
-ghost use Rattle.hf_store.specs.Changes.{cut_list as cut_list_stated, cut_refs as cut_refs_stated, cut_item as cut_item_stated, cut_group as cut_group_stated, cut_groups as cut_groups_stated, group_stays as group_stays_stated};
+ghost use Rattle.hf_store.specs.Changes.{cut_list as cut_list_stated, cut_refs as cut_refs_stated, cut_item as cut_item_stated, cut_group as cut_group_stated, cut_groups as cut_groups_stated, group_stays as group_stays_stated, is_other};
 ghost use Rattle.hf_store.specs.Counts.{targets_of};
 ghost use Rattle.hf_store.specs.Lists.{not_empty};
+ghost use Rattle.hf_store.specs.Referred.{HasAll, HaveTargets, all_targets};
 ghost use Rattle.hf_store.specs.Seen.{item_of, items_of};
 ghost use Rattle.hf_store.specs.Stays.{IsSearchable, is_whole, stays_of};
 ghost use Rattle.hf_store.specs.Store.{Item as StatedItem};
 
 use crate::Item;
 use crate::item::{RefList, Refs};
-use crate::tally::count_targets;
+use crate::referring::Referred;
+use crate::tally::{Counts, count_targets};
 use hf_base::Series;
 use hf_links::Group;
 use hf_table::is_listed;
@@ -151,6 +153,32 @@ pub(crate) fn cut_items(items: &mut Vec<Item<'_>>, stays: &Stays<'_>) -> Links
             .saturating_add(count_targets(item.refs.as_slice()));
     }
     links
+}
+
+/// Takes the id of an item that goes out of the references of others, and counts what is left. Where
+/// no reference leads to it nothing changes, and no item is looked at: what is left was counted
+/// before.
+pub(crate) fn cut_referred(
+    items: &mut Vec<Item<'_>>,
+    referred: &Referred,
+    gone: u32,
+    left: Counts,
+) -> Links
+    requires known { HasAll referred.now (all_targets (items_of items.old.items)) }
+    requires some { HaveTargets (items_of items.old.items) }
+    requires links { left.links ≡ sum_by (λ (i : StatedItem). length i.refs) (items_of items.old.items) }
+    requires ids { left.targets ≡ sum_by (λ (i : StatedItem). targets_of i.refs) (items_of items.old.items) }
+    ensures items { items_of items.new.items ≡ map (cut_item_stated (is_other gone)) (items_of items.old.items) }
+    ensures lists { result.lists ≡ capped (sum_by (λ (i : StatedItem). length i.refs) (items_of items.new.items)) }
+    ensures targets { result.targets ≡ capped (sum_by (λ (i : StatedItem). targets_of i.refs) (items_of items.new.items)) }
+{
+    if referred.has(gone) {
+        return cut_items(items, &Stays::Others(gone));
+    }
+    Links {
+        lists: left.links,
+        targets: left.targets,
+    }
 }
 
 /// How many of some ids stay.

@@ -7,6 +7,7 @@ mod item;
 pub mod laws;
 mod measuring;
 mod reason;
+mod referring;
 pub mod room_worked;
 mod size;
 mod store;

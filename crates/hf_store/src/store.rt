@@ -1,12 +1,13 @@
 //! The store of items.
 
-ghost use Rattle.std.specs.Prelude.{◌≡◌, ◌<◌, ◌≤◌, ◌^◌, ◌↔◌, length, map, IfSome, IfNone, Some, slice_get, IsTrue};
+ghost use Rattle.std.specs.Prelude.{◌≡◌, ◌<◌, ◌≤◌, ◌^◌, ◌↔◌, length, map, IfSome, IfNone, Some, slice_get, false, IsTrue};
 ghost use Rattle.std.specs.List.{flat_map};
 ghost use Rattle.hf_base.specs.declared.limits.TheConstants as limits;
 ghost use Rattle.hf_head.specs.Ftyp.{brands_of};
 ghost use Rattle.hf_links.specs.Grpl.{group_of};
 ghost use Rattle.hf_store.specs.Counts.{counts_of};
 ghost use Rattle.hf_store.specs.Lists.{IsIn};
+ghost use Rattle.hf_store.specs.Referred.{all_targets};
 ghost use Rattle.hf_store.specs.Sizes.{AreFew};
 ghost use Rattle.hf_store.specs.Store.{ids_of};
 ghost use Rattle.hf_store.specs.Table.{props_of, table_of};
@@ -21,6 +22,7 @@ mod room;
 
 use crate::Item;
 use crate::item::{GroupList, ItemList};
+use crate::referring::Referred;
 use crate::size::{meta_size, short_inner};
 use crate::tally::Counts;
 use hf_head::Brands;
@@ -45,6 +47,8 @@ pub struct Parts<'a> {
 /// The items of a file and what it says of them, without where anything lies in it. Its type keeps
 /// that it is valid: which stores are so is this project's own rule. It keeps the distinct
 /// properties with the numbers of their holders, and what the length of `meta` follows from.
+/// Each id that a reference leads to is in `referred`, so that no item is looked at for another id;
+/// changes that take references away leave it as it is.
 #[derive(Drop)]
 pub struct Store<'a> {
     brands: Brands<'a>,
@@ -53,6 +57,7 @@ pub struct Store<'a> {
     groups: Vec<Group<'a>>,
     uses: Uses<'a>,
     counts: Counts,
+    referred: Referred,
 }
 
 impl<'a> Model for Store<'a> {
@@ -139,6 +144,15 @@ impl<'a> Store<'a> {
     {
         let i = self.position(id)?;
         Some(self.at(i))
+    }
+
+    /// Whether references may lead to an id. Where they can't, no item has one to it; otherwise
+    /// nothing is said, since an id may still be known whose references are gone. It is a matter of
+    /// speed: no item is looked at.
+    pub fn may_be_referred_to(&self, id: u32) -> bool
+        ensures { result ≡ false → IsIn id (all_targets self.now.items) → ⊥ }
+    {
+        self.referred.has(id)
     }
 
     /// How many groups there are.

@@ -15,6 +15,7 @@ ghost use Rattle.hf_table.specs.Uses.{Tallies};
 
 use crate::Item;
 use crate::measuring::measure_meta;
+use crate::referring::referred_of;
 use crate::store::{Parts, Store};
 use crate::tally::{Counts, count_groups, count_items};
 use hf_base::limits::{ITEMS, LINKS, META};
@@ -109,6 +110,7 @@ impl<'a> Store<'a> {
         let items = clone_of(alloc, &self.items)?;
         let groups = clone_of(alloc, &self.groups)?;
         let uses = uses_of(alloc, &items)?;
+        let referred = referred_of(alloc, &items)?;
         Ok(Store {
             brands: self.brands,
             primary: self.primary,
@@ -116,6 +118,7 @@ impl<'a> Store<'a> {
             groups,
             uses,
             counts: self.counts,
+            referred,
         })
     }
 
@@ -132,6 +135,7 @@ impl<'a> Store<'a> {
         let items = parts.items.into_vec();
         let groups = parts.groups.into_vec();
         let uses = uses_of(alloc, &items)?;
+        let referred = referred_of(alloc, &items)?;
         Ok(Store {
             brands: parts.brands,
             primary: parts.primary,
@@ -139,6 +143,7 @@ impl<'a> Store<'a> {
             groups,
             uses,
             counts,
+            referred,
         })
     }
 }

@@ -7,7 +7,7 @@ ghost use Rattle.hf_store.specs.Seen.{item_of, items_of};
 ghost use Rattle.hf_store.specs.Valid.{Valid};
 ghost use Rattle.hf_table.specs.Held.{is_among, is_of, is_optional_of};
 
-use crate::cutting::{Links, Stays, cut_groups, cut_items};
+use crate::cutting::{Links, Stays, cut_groups, cut_items, cut_referred};
 use crate::item::{Item, Props};
 use crate::store::Store;
 use crate::tally::{Counts, count_groups, count_item, count_items};
@@ -128,6 +128,7 @@ impl<'a> Store<'a> {
     {
         let _bytes = self.uses.bytes();
         self.items.reserve(1)?;
+        self.referred.add_refs(item.refs.as_slice())?;
         self.uses.add_all(item.props.as_slice())?;
         self.counts = self.counts.plus(count_item(&item));
         self.items.push(item)?;
@@ -163,11 +164,10 @@ impl<'a> Store<'a> {
     {
         let item = self.items.remove(i);
         self.uses.take_all(item.props.as_slice());
-        let stays = Stays::Others(item.id);
-        let links = cut_items(&mut self.items, &stays);
-        cut_groups(&mut self.groups, &stays);
-        let groups = count_groups(&self.groups);
         let left = self.counts.minus(count_item(&item));
+        let links = cut_referred(&mut self.items, &self.referred, item.id, left);
+        cut_groups(&mut self.groups, &Stays::Others(item.id));
+        let groups = count_groups(&self.groups);
         self.counts = relinked(left, &links, groups);
     }
 }

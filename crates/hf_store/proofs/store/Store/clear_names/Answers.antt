@@ -4,6 +4,7 @@ use Rattle.hf_links.specs.Grpl.{groups_of}
 use Rattle.hf_store.specs.Capped.{capped_counts}
 use Rattle.hf_store.specs.Changes.{without_names}
 use Rattle.hf_store.specs.Counts.{counts_of_items, counts_of_groups}
+use Rattle.hf_store.specs.Referred.{HasAll, all_targets}
 use Rattle.hf_store.specs.Seen.{items_of, store_of}
 use Rattle.hf_store.specs.Store.{Item, ItemStore}
 use Rattle.hf_store.specs.Table.{props_of}
@@ -11,6 +12,7 @@ use Rattle.hf_store.specs.Valid.{Valid}
 use Rattle.hf_table.specs.Uses.{Tallies}
 use Rattle.hf_store.proofs.Names.{props-unnamed, valid_unnamed}
 use Rattle.hf_store.proofs.Recounted.{recounted, counted_exactly}
+use Rattle.hf_store.proofs.Targets.{targets-unnamed}
 use Rattle.hf_store.proofs.store.Store.clear_names.Goals as goal
 
 out : (c : goal.After-self-1) → record (store_of c.self.inside) { items = items_of c.unname.new.items.items } ≡ without_names (store_of c.self.inside)
@@ -27,6 +29,7 @@ invariant_of-self c =
       valid = valid;
       tallies = subst (Tallies c.self.inside.uses) (sym (ap (flat_map props_of) c.unname.ensures ∙ props-unnamed s.items)) c.self.invariant.tallies;
       counted = counted_exactly t valid c.plus-self-inside.result (recounted t c.count_items.result c.count_groups.result c.plus-self-inside.result items groups c.plus-self-inside.ensures);
+      referred = subst (HasAll c.self.inside.referred) (sym (ap all_targets c.unname.ensures ∙ targets-unnamed s.items)) c.self.invariant.referred;
     }
 
 pub returns : goal.returns

@@ -1,4 +1,4 @@
-use Rattle.std.proofs.Common.{◌≡◌, set, not, sym, ap, subst, rules}
+use Rattle.std.proofs.Common.{◌≡◌, set, not, refl, sym, ap, subst, rules}
 use Rattle.std.proofs.lemmas.Fn.{filter_same}
 use Rattle.hf_prop.specs.declared.held.Held.{Held}
 use Rattle.hf_store.specs.Changes.{lacking, changed_at}
@@ -9,7 +9,7 @@ use Rattle.hf_table.specs.Held.{props_in, is_of, of_kind, without_kind}
 use Rattle.hf_table.specs.Uses.{Gains, Holds, Trades}
 use Rattle.hf_table.proofs.Stores.{holds-kind, trades-kind}
 use Rattle.hf_store.proofs.Removed.{taken_holds, taken_part}
-use Rattle.hf_store.proofs.Swapped.{IsSwapped, swapped}
+use Rattle.hf_store.proofs.Swapped.{IsSwapped, changed_targets, swapped}
 use Rattle.hf_store.proofs.store.Store.drop_props.Goals as goal
 
 pub take_kind-requires : goal.take_kind-requires
@@ -49,7 +49,17 @@ dropped c =
     c.count_item.ensures c.minus-left.ensures c.count_item-2.ensures c.plus-self-inside.ensures
 
 pub invariant_of-self : goal.invariant_of-self
-invariant_of-self c = let d = dropped c in record { valid = d.valid; tallies = d.tallies; counted = d.counted }
+invariant_of-self c =
+    let d = dropped c in
+    let item = c.index_mut-item.result.now in
+    record {
+      valid = d.valid;
+      tallies = d.tallies;
+      counted = d.counted;
+      referred =
+          changed_targets c.self.inside c.args.self.now c.self.view_is c.self.invariant c.args.i c.requires.place item c.index_mut-item.ensures.value
+          (left_item c) refl;
+    }
 
 pub returns : goal.returns
 returns c = (dropped c).out

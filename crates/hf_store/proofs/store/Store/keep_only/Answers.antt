@@ -6,6 +6,8 @@ use Rattle.hf_links.specs.Grpl.{groups_of}
 use Rattle.hf_store.specs.Capped.{capped_counts}
 use Rattle.hf_store.specs.Changes.{cut_item, cut, kept_only}
 use Rattle.hf_store.specs.Counts.{plus, counts_of_items, counts_of_groups, counts_of}
+use Rattle.hf_store.specs.Lists.{IsIn}
+use Rattle.hf_store.specs.Referred.{all_targets}
 use Rattle.hf_store.specs.Seen.{items_of, store_of}
 use Rattle.hf_store.specs.Store.{Item, Group, ItemStore}
 use Rattle.hf_store.specs.Table.{props_of}
@@ -19,6 +21,7 @@ use Rattle.hf_store.proofs.Few.{few_capped}
 use Rattle.hf_store.proofs.FewCounts.{counts_few}
 use Rattle.hf_store.proofs.Listed.{code_props, code-props, stated-listed}
 use Rattle.hf_store.proofs.Removed.{props-cut}
+use Rattle.hf_store.proofs.Targets.{targets_cut, targets_filtered}
 use Rattle.hf_store.proofs.store.Store.keep_only.Goals as goal
 
 pub take_others-requires : goal.take_others-requires
@@ -60,6 +63,7 @@ invariant_of-self c =
     let us = c.self.inside.uses in
     let is = c.self.inside.items.items in
     let id_of : CodeItem → ℕ = λ i. i.id in
+    let p = is_among ids in
     let old : Tallies us (flat_map code_props is) = subst (Tallies us) (code-props is) c.self.invariant.tallies in
     let down : Gains c.take_others.new.self (props_of_others id_of code_props ids is) us = subst (λ js. Gains c.take_others.new.self (props_of_others id_of code_props ids js) us) c.deref.ensures.value c.take_others.ensures in
     let listed = tallies-listed code_props id_of ids us is old c.take_others.new.self down in
@@ -74,6 +78,10 @@ invariant_of-self c =
       counted =
           c.plus-self-inside.ensures ∙ ap (λ k. capped_counts (plus k c.count_groups.result)) items ∙ ap (λ k. capped_counts (plus (capped_counts (counts_of_items t.items)) k)) groups
           ∙ capped-plus (counts_of_items t.items) (counts_of_groups t.groups) ∙ few_capped (plus (counts_of_items t.items) (counts_of_groups t.groups)) (counts_few t valid);
+      referred = λ id h.
+          let stay : List Item = filter (λ (i : Item). p i.id) (items_of is) in
+          let led : IsIn id (all_targets (map (cut_item p) stay)) = subst (λ js. IsIn id (all_targets js)) (items_left c) h in
+          c.self.invariant.referred id (targets_filtered (λ (i : Item). p i.id) (items_of is) id (targets_cut p stay id led));
     }
 
 pub returns : goal.returns

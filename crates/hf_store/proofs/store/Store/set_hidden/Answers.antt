@@ -4,7 +4,7 @@ use Rattle.hf_store.specs.Seen.{items_of, store_of}
 use Rattle.hf_store.specs.Store.{Item, ItemStore}
 use Rattle.hf_store.specs.Valid.{Valid}
 use Rattle.hf_store.specs.declared.item.Item.{Item as CodeItem}
-use Rattle.hf_store.proofs.Swapped.{changed_items, changed_tallies, same_counts}
+use Rattle.hf_store.proofs.Swapped.{changed_items, changed_tallies, changed_targets, same_counts}
 use Rattle.hf_store.proofs.store.Store.set_hidden.Goals as goal
 
 abbrev hidden_item : goal.After-self-1 → CodeItem
@@ -21,6 +21,9 @@ invariant_of-self c = record {
   valid = subst Valid (sym (out c)) c.requires.valid;
   tallies = changed_tallies c.self.inside c.args.self.now c.self.view_is c.self.invariant c.args.i c.requires.place c.index_mut-item.result.now c.index_mut-item.ensures.value (hidden_item c) c.self.inside.uses (record { each = λ q. refl });
   counted = same_counts c.self.inside c.args.self.now c.self.view_is c.self.invariant c.args.i c.requires.place c.index_mut-item.result.now c.index_mut-item.ensures.value (hidden_item c) refl;
+  referred =
+      changed_targets c.self.inside c.args.self.now c.self.view_is c.self.invariant c.args.i c.requires.place c.index_mut-item.result.now
+      c.index_mut-item.ensures.value (hidden_item c) refl;
 }
 
 pub returns : goal.returns

@@ -10,4 +10,5 @@ invariant_of-self c = record {
   valid = subst Valid (sym (ap (with_primary c.args.id) c.self.view_is)) c.requires;
   tallies = c.self.invariant.tallies;
   counted = c.self.invariant.counted;
+  referred = c.self.invariant.referred;
 }

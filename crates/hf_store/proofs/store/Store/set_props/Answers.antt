@@ -1,4 +1,5 @@
 use Rattle.std.proofs.Common.{◌≡◌, List, set, refl, sym, ap, subst, ◌∙◌}
+use Rattle.std.proofs.Math.Seq.{map-set_same}
 use Rattle.hf_prop.specs.declared.held.Held.{Held}
 use Rattle.hf_store.specs.Changes.{holding, with_props}
 use Rattle.hf_store.specs.Counts.{HasCounts}
@@ -8,8 +9,9 @@ use Rattle.hf_store.specs.Valid.{Valid}
 use Rattle.hf_store.specs.declared.item.Item.{Item as CodeItem}
 use Rattle.hf_table.specs.Held.{props_in}
 use Rattle.hf_table.specs.Uses.{HasRoom, Holds, Trades}
+use Rattle.hf_store.proofs.Pushed.{still_kept}
 use Rattle.hf_store.proofs.Removed.{taken_holds, taken_part}
-use Rattle.hf_store.proofs.Swapped.{IsSwapped, changed_items, changed_room, swapped}
+use Rattle.hf_store.proofs.Swapped.{IsSwapped, changed_items, changed_room, changed_targets, swapped}
 use Rattle.hf_store.proofs.store.Store.set_props.Goals as goal
 
 abbrev new_item : CodeItem → List Held → CodeItem
@@ -63,7 +65,25 @@ changed c =
     c.count_item.ensures c.minus-left.ensures c.count_item-2.ensures c.plus-self-inside.ensures
 
 pub invariant_of-self-2 : goal.invariant_of-self-2
-invariant_of-self-2 c = let d = changed c in record { valid = d.valid; tallies = d.tallies; counted = d.counted }
+invariant_of-self-2 c =
+    let d = changed c in
+    let item = c.index_mut-item.result.now in
+    record {
+      valid = d.valid;
+      tallies = d.tallies;
+      counted = d.counted;
+      referred =
+          changed_targets c.self.inside c.args.self.now c.self.view_is c.self.invariant c.args.i c.requires.place item c.index_mut-item.ensures.value
+          (new_item item c.replace-2.new.dest) refl;
+    }
 
 pub returns-clause-set : goal.returns-clause-set
 returns-clause-set c = (changed c).out
+
+-- after `NoMemory` the store is as before
+pub invariant_of-self : goal.invariant_of-self
+invariant_of-self c =
+    let item = c.index_mut-item.result.now in
+    let made : List Item → ItemStore = λ is. record (store_of c.self.inside) { items = is } in
+    let same = map-set_same item_of c.self.inside.items.items c.args.i item item (ap item_of c.index_mut-item.ensures.value) in
+    still_kept c.self.inside _ (ap made same) c.in_err-replace.ensures.same refl (λ id h. h) c.self.invariant

@@ -3,6 +3,7 @@ use Rattle.std.specs.List.{flat_map}
 use Rattle.hf_base.specs.declared.limits.TheConstants as limits
 use Rattle.hf_links.specs.Grpl.{groups_of}
 use Rattle.hf_store.specs.Counts.{counts_of}
+use Rattle.hf_store.specs.Referred.{HasAll, all_targets}
 use Rattle.hf_store.specs.Seen.{items_of, store_of}
 use Rattle.hf_store.specs.Store.{ItemStore}
 use Rattle.hf_store.specs.Table.{props_of}
@@ -27,4 +28,5 @@ invariant_of-result c =
       valid = subst Valid (sym same) c.self.invariant.valid;
       tallies = subst (λ is. Tallies c.in_ok-uses.uses (flat_map props_of (items_of is))) c.deref-3.ensures.value c.in_ok-uses.ensures;
       counted = c.self.invariant.counted ∙ ap counts_of (sym same);
+      referred = subst (λ is. HasAll c.in_ok-referred.referred (all_targets (items_of is))) c.deref-4.ensures.value c.in_ok-referred.ensures;
     }
