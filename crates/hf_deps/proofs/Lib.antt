@@ -8,5 +8,6 @@ pub mod Needers
 pub mod PairLists
 pub mod Parts
 pub mod Redactions
+pub mod Referrers
 pub mod Spread
 pub mod Undescribing

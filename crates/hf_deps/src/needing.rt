@@ -44,10 +44,13 @@ fn is_needer(item: &Item<'_>, id: u32) -> bool
 }
 
 /// The least id of another item that needs the one with this id: it has a reference of type `dimg`,
-/// `tbas` or `prem` to it.
+/// `tbas` or `prem` to it. No item is looked at where the store knows that no reference leads to it.
 pub fn needed_by(store: &Store<'_>, id: u32) -> Option<u32>
     ensures { result ≡ needed_by_stated id store.now.items }
 {
+    if !store.may_be_referred_to(id) {
+        return None;
+    }
     for i in 0..store.len() {
         let item = store.at(i);
         if is_needer(item, id) {
