@@ -1,23 +1,8 @@
 //! Reading, making and saying over desks that count and fail.
 
-use hf_desk::{CountingDesk, Desk, MemoryDesk, ReadStop, make_file, read_all, say_all};
+use hf_desk::{MemoryDesk, ReadStop, make_file, read_all, say_all};
 use std::alloc::Global;
 use std::test::Fail;
-
-#[test]
-fn a_file_is_read_up_to_the_limit(rt: HostRuntime) -> Result<(), Fail> {
-    let alloc = rt.alloc();
-    let mut desk = MemoryDesk::new(alloc);
-    desk.add("five", b"abcde")?;
-    desk.add("four", b"abcd")?;
-    assert_eq!(rt;
-        read_all(alloc, &mut desk, "five", 4).err(),
-        Some(ReadStop::TooLong)
-    );
-    let bytes = read_all(alloc, &mut desk, "four", 4)?;
-    assert_eq!(rt; bytes.as_slice(), b"abcd".as_slice());
-    Ok(())
-}
 
 #[test]
 fn the_second_read_fails(rt: HostRuntime) -> Result<(), Fail> {
@@ -44,46 +29,6 @@ fn a_piece_is_written_byte_by_byte(rt: HostRuntime) -> Result<(), Fail> {
     assert_eq!(rt; desk.said(), piece.as_slice());
     make_file(&mut desk, "new", &piece)?;
     assert_eq!(rt; desk.made(), Some(piece.as_slice()));
-    Ok(())
-}
-
-#[test]
-fn a_name_gets_new_bytes(rt: HostRuntime) -> Result<(), Fail> {
-    let alloc = rt.alloc();
-    let mut desk = MemoryDesk::new(alloc);
-    desk.add("name", b"old")?;
-    desk.add("name", b"newer")?;
-    assert_eq!(rt; desk.file("name"), Some(b"newer".as_slice()));
-    assert_eq!(rt; desk.file("other"), None);
-    assert_eq!(rt; desk.made(), None);
-    Ok(())
-}
-
-#[test]
-fn bytes_are_counted(rt: HostRuntime) -> Result<(), Fail> {
-    let mut desk = CountingDesk::new();
-    desk.add("a", b"abc");
-    let mut buf = [0u8; 2];
-    assert_eq!(rt; desk.read_at("a", 2, &mut buf), Ok(1));
-    assert_eq!(rt; buf, [b'c', 0]);
-    make_file(&mut desk, "b", b"12345")?;
-    say_all(&mut desk, b"123")?;
-    assert_eq!(rt; desk.made_len(), 5);
-    assert_eq!(rt; desk.said_len(), 3);
-    Ok(())
-}
-
-#[test]
-fn no_more_is_read_than_one_byte_behind_the_limit(rt: HostRuntime) -> Result<(), Fail> {
-    let alloc = rt.alloc();
-    let mut desk = MemoryDesk::new(alloc);
-    desk.add("seven", b"abcdefg")?;
-    assert_eq!(rt;
-        read_all(alloc, &mut desk, "seven", 4).err(),
-        Some(ReadStop::TooLong)
-    );
-    assert_eq!(rt; desk.given(), 5);
-    assert_eq!(rt; desk.reach(), 5);
     Ok(())
 }
 

@@ -3,7 +3,7 @@
 ghost use Rattle.std.specs.Prelude.{◌≡◌, IfOk};
 
 use hf_base::kinds::ILOC;
-use hf_base::{Extent, Extents, Ids, Loc, NoMemory, OpenFault, ReadRefusal, RefBox};
+use hf_base::{Extent, Extents, Ids, Loc, NoMemory, RefBox};
 use hf_extent::resolve;
 use std::alloc::Global;
 use std::test::Fail;
@@ -59,26 +59,5 @@ fn items_have_their_bytes(rt: HostRuntime) -> Result<(), Fail> {
         text.push(b';')?;
     }
     assert_eq!(rt; text.as_slice(), b";123,456,;3,456,;xyz,;".as_slice());
-    Ok(())
-}
-
-#[test]
-fn items_located_in_each_other_are_refused(rt: HostRuntime) -> Result<(), Fail> {
-    let alloc = rt.alloc();
-    let locs = [
-        entry(alloc, 5, 2, &[(0, 1)])?,
-        entry(alloc, 4, 2, &[(0, 1)])?,
-        entry(alloc, 3, 2, &[(0, 1)])?,
-    ];
-    let links = [
-        located_in(alloc, 4, 5)?,
-        located_in(alloc, 5, 4)?,
-        located_in(alloc, 3, 4)?,
-    ];
-    let fault = resolve(alloc, &[], None, &[3, 4, 5], &locs, &links).err();
-    assert_eq!(rt;
-        fault,
-        Some(OpenFault::Unfit(ReadRefusal::LocCycle { id: 3 }))
-    );
     Ok(())
 }

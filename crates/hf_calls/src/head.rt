@@ -3,11 +3,11 @@
 ghost use Rattle.std.specs.Prelude.{◌≡◌, ◌≤◌, length};
 ghost use Rattle.hf_base.specs.declared.limits.TheConstants.{FILE};
 
-use hf_base::kinds::{FTYP, HDLR, PITM};
+use hf_base::kinds::{FTYP, HDLR};
 use hf_base::{FourCc, ReadRefusal};
 use hf_box::BoxView;
 use hf_desk::{Desk, MemoryDesk};
-use hf_head::{Brands, put_ftyp, put_hdlr, put_pitm, read_ftyp, read_hdlr, read_pitm};
+use hf_head::{Brands, put_ftyp, put_hdlr, put_pitm, read_ftyp, read_hdlr};
 use std::test::Fail;
 
 /// A `ftyp` of the brands `heic`, `mif1` and `heic`.
@@ -15,9 +15,6 @@ const BRANDS: [u8; 24] = *b"\0\0\0\x18ftypheic\0\0\0\0mif1heic";
 
 /// A `hdlr` of pictures.
 const HANDLER: [u8; 33] = *b"\0\0\0\x21hdlr\0\0\0\0\0\0\0\0pict\0\0\0\0\0\0\0\0\0\0\0\0\0";
-
-/// A `pitm` of item 1.
-const PRIMARY: [u8; 14] = *b"\0\0\0\x0epitm\0\0\0\0\0\x01";
 
 /// A `pitm` of item 70,000.
 const WIDE_PRIMARY: [u8; 16] = *b"\0\0\0\x10pitm\x01\0\0\0\0\x01\x11\x70";
@@ -82,45 +79,10 @@ fn the_handler_is_read_and_put(rt: HostRuntime) -> Result<(), Fail> {
 }
 
 #[test]
-fn the_primary_item_is_read(rt: HostRuntime) -> Result<(), Fail> {
-    assert_eq!(rt; read_pitm(&view(PITM, &PRIMARY[8..])).ok(), Some(1));
-    assert_eq!(rt;
-        read_pitm(&view(PITM, &WIDE_PRIMARY[8..])).ok(),
-        Some(70_000)
-    );
-    let later = [2, 0, 0, 0];
-    assert_eq!(rt;
-        read_pitm(&view(PITM, &later)).err(),
-        Some(ReadRefusal::BadVersion { kind: PITM, at: 36 })
-    );
-    Ok(())
-}
-
-#[test]
-fn a_narrow_primary_item_is_put(rt: HostRuntime) -> Result<(), Fail> {
-    let mut desk = MemoryDesk::new(rt.alloc());
-    desk.create("new")?;
-    put_pitm(1, false, &mut desk)?;
-    assert_eq!(rt; desk.made(), Some(PRIMARY.as_slice()));
-    Ok(())
-}
-
-#[test]
 fn a_wide_primary_item_is_put(rt: HostRuntime) -> Result<(), Fail> {
     let mut desk = MemoryDesk::new(rt.alloc());
     desk.create("new")?;
     put_pitm(70_000, true, &mut desk)?;
     assert_eq!(rt; desk.made(), Some(WIDE_PRIMARY.as_slice()));
-    Ok(())
-}
-
-#[test]
-fn a_put_that_fails_ends_the_box(rt: HostRuntime) -> Result<(), Fail> {
-    let mut desk = MemoryDesk::new(rt.alloc());
-    desk.create("new")?;
-    desk.take_at_most(16);
-    desk.fail(3)?;
-    assert!(rt; put_ftyp(&heic(), &mut desk).is_err());
-    assert_eq!(rt; desk.made(), Some(&BRANDS[..16]));
     Ok(())
 }

@@ -3,8 +3,8 @@
 ghost use Rattle.std.specs.Prelude.{◌≡◌, ◌<◌, ◌^◌};
 ghost use Rattle.hf_box.specs.Boxes.{box_of, end_of};
 
-use hf_base::kinds::{IINF, INFE};
-use hf_base::{FourCc, OpenFault, ReadRefusal, be_put};
+use hf_base::kinds::IINF;
+use hf_base::{FourCc, be_put};
 use hf_box::BoxView;
 use hf_desk::{Desk, MemoryDesk};
 use hf_info::{Info, infe_size, put_infe, read_iinf};
@@ -17,9 +17,6 @@ const TABLE: &[u8] = b"\0\0\0\0\0\x02\
 \0\0\0\x27infe\x02\0\0\x01\0\x02\0\0mimea b\0a/b\0gzip\0free\0\0\
 \0\0\0\x09free\x07\
 \0\0\0\x1ainfe\x03\0\0\0\0\x01\x11\x70\0\0uri \0u:x";
-
-/// The entry of the `mime` as it is written, with an id of two bytes.
-const MIME_ENTRY: &[u8] = b"\0\0\0\x21infe\x02\0\0\x01\0\x02\0\0mimea b\0a/b\0gzip\0";
 
 /// The entry of the `uri ` as it is written, with an id of four bytes.
 const URI_ENTRY: &[u8] = b"\0\0\0\x1binfe\x03\0\0\0\0\x01\x11\x70\0\0uri \0u:x\0";
@@ -85,14 +82,6 @@ fn entries_are_read(rt: HostRuntime) -> Result<(), Fail> {
     Ok(())
 }
 
-#[test]
-fn an_entry_that_is_cut_is_refused(rt: HostRuntime) {
-    let body = b"\0\0\0\0\0\x01\0\0\0\x12infe\x02\0\0\0\0\x01\0\0hv";
-    let fault = read_iinf(rt.alloc(), &view(body)).err();
-    let cut = ReadRefusal::BadRecord { kind: INFE, at: 97 };
-    assert_eq!(rt; fault, Some(OpenFault::Unfit(cut)));
-}
-
 /// A body of version 1 with so many entries of version 3.
 fn long_table(alloc: Global, count: u32) -> Result<Vec<u8>, Fail> {
     let mut entry = *b"\0\0\0\x16infe\x03\0\0\0\0\0\0\0\0\0hvc1";
@@ -116,17 +105,6 @@ fn a_table_of_70_000_entries_is_read(rt: HostRuntime) -> Result<(), Fail> {
 }
 
 #[test]
-fn a_narrow_entry_is_put(rt: HostRuntime) -> Result<(), Fail> {
-    let info = mime();
-    assert_eq!(rt; infe_size(&info, false), 33);
-    let mut desk = MemoryDesk::new(rt.alloc());
-    desk.create("new")?;
-    put_infe(&info, false, &mut desk)?;
-    assert_eq!(rt; desk.made(), Some(MIME_ENTRY));
-    Ok(())
-}
-
-#[test]
 fn a_wide_entry_is_put(rt: HostRuntime) -> Result<(), Fail> {
     let info = uri();
     assert_eq!(rt; infe_size(&info, true), 27);
@@ -134,18 +112,5 @@ fn a_wide_entry_is_put(rt: HostRuntime) -> Result<(), Fail> {
     desk.create("new")?;
     put_infe(&info, true, &mut desk)?;
     assert_eq!(rt; desk.made(), Some(URI_ENTRY));
-    Ok(())
-}
-
-#[test]
-fn a_put_that_fails_ends_the_entry(rt: HostRuntime) -> Result<(), Fail> {
-    let info = mime();
-    assert_eq!(rt; infe_size(&info, false), 33);
-    let mut desk = MemoryDesk::new(rt.alloc());
-    desk.create("new")?;
-    desk.take_at_most(16);
-    desk.fail(3)?;
-    assert!(rt; put_infe(&info, false, &mut desk).is_err());
-    assert_eq!(rt; desk.made(), Some(&MIME_ENTRY[..16]));
     Ok(())
 }

@@ -13,14 +13,6 @@ use std::test::Fail;
 /// The body of an `iloc` whose item 1 has three bytes from 190 on.
 const ONE: [u8; 24] = *b"\x01\0\0\0\x44\0\0\x01\0\x01\0\0\0\0\0\x01\0\0\0\xbe\0\0\0\x03";
 
-/// The body of an `iloc` of version 0 whose item 5 has two extents and a base; it does not look at
-/// the low four bits of its second byte of widths.
-const BASED: [u8; 26] = *b"\0\0\0\0\x40\x47\0\x01\0\x05\0\x03\0\0\x01\0\0\x02\0\0\0\x01\0\0\0\x02";
-
-/// The body of an `iloc` of version 2 whose item 70,000 has an extent in another item.
-const WIDE: [u8; 40] =
-    *b"\x02\0\0\0\x08\x84\0\0\0\x01\0\x01\x11\x70\xff\xf2\0\0\0\0\0\0\0\0\0\x07\0\x01\0\0\0\x02\0\0\0\0\0\0\0\x0a";
-
 /// Entries of the table of many.
 const MANY: u16 = 4096;
 
@@ -57,59 +49,6 @@ fn the_worked_entry_is_read(rt: HostRuntime) -> Result<(), Fail> {
 }
 
 #[test]
-fn widths_of_three_bytes_and_cut_bodies_are_refused(rt: HostRuntime) -> Result<(), Fail> {
-    let mut odd = ONE;
-    odd[4] = 0x34;
-    assert_eq!(rt;
-        refusal(rt.alloc(), &odd),
-        Some(OpenFault::Unfit(ReadRefusal::BadWidth { at: 150 }))
-    );
-    let short = ReadRefusal::BadRecord {
-        kind: ILOC,
-        at: 150,
-    };
-    for len in [0, 3, 7, 9, 15, 23] {
-        assert_eq!(rt;
-            refusal(rt.alloc(), &ONE[..len]),
-            Some(OpenFault::Unfit(short))
-        );
-    }
-    Ok(())
-}
-
-#[test]
-fn bases_and_several_extents_are_read(rt: HostRuntime) -> Result<(), Fail> {
-    let locs = read_iloc(rt.alloc(), &view(&BASED))?;
-    assert_eq!(rt; locs.len(), 1);
-    assert_eq!(rt; locs[0].id, 5);
-    assert_eq!(rt; locs[0].dref, 3);
-    assert_eq!(rt; locs[0].base, 256);
-    let extents = [1, 2].map(|offset| Extent {
-        index: 1,
-        offset,
-        length: 0,
-    });
-    assert_eq!(rt; locs[0].extents.as_slice(), extents.as_slice());
-    Ok(())
-}
-
-#[test]
-fn indexes_and_methods_are_read(rt: HostRuntime) -> Result<(), Fail> {
-    let locs = read_iloc(rt.alloc(), &view(&WIDE))?;
-    assert_eq!(rt; locs.len(), 1);
-    assert_eq!(rt; locs[0].id, 70_000);
-    assert_eq!(rt; locs[0].method, 2);
-    assert_eq!(rt; locs[0].base, 7);
-    let extent = Extent {
-        index: 2,
-        offset: 0,
-        length: 10,
-    };
-    assert_eq!(rt; locs[0].extents.as_slice(), [extent].as_slice());
-    Ok(())
-}
-
-#[test]
 fn many_entries_are_read(rt: HostRuntime) -> Result<(), Fail> {
     let mut body = Vec::new(rt.alloc());
     body.extend_from_slice(b"\x01\0\0\0\x44\0")?;
@@ -139,16 +78,6 @@ fn many_entries_are_read(rt: HostRuntime) -> Result<(), Fail> {
 }
 
 #[test]
-fn a_narrow_entry_is_put(rt: HostRuntime) -> Result<(), Fail> {
-    let mut desk = MemoryDesk::new(rt.alloc());
-    desk.create("new")?;
-    put_entry(1, 0, 190, 3, false, false, &mut desk)?;
-    assert_eq!(rt; desk.made(), Some(&ONE[8..]));
-    assert_eq!(rt; entry_size(false, false), 16);
-    Ok(())
-}
-
-#[test]
 fn a_wide_and_long_entry_is_put(rt: HostRuntime) -> Result<(), Fail> {
     let mut desk = MemoryDesk::new(rt.alloc());
     desk.create("new")?;
@@ -156,16 +85,5 @@ fn a_wide_and_long_entry_is_put(rt: HostRuntime) -> Result<(), Fail> {
     let entry = b"\0\x01\x11\x70\0\x01\0\0\0\x01\0\0\0\x01\0\0\0\0\0\0\0\0\0\0\0\x05";
     assert_eq!(rt; desk.made(), Some(entry.as_slice()));
     assert_eq!(rt; entry_size(true, true), 26);
-    Ok(())
-}
-
-#[test]
-fn a_put_that_fails_ends_the_entry(rt: HostRuntime) -> Result<(), Fail> {
-    let mut desk = MemoryDesk::new(rt.alloc());
-    desk.create("new")?;
-    desk.take_at_most(10);
-    desk.fail(3)?;
-    assert!(rt; put_entry(1, 0, 190, 3, false, false, &mut desk).is_err());
-    assert_eq!(rt; desk.made(), Some(&ONE[8..18]));
     Ok(())
 }

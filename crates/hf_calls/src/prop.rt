@@ -3,13 +3,10 @@
 ghost use Rattle.std.specs.Prelude.{◌≡◌, ◌<◌, ◌^◌};
 ghost use Rattle.hf_box.specs.Boxes.{box_of, end_of};
 
-use hf_base::kinds::{CLAP, IPCO, IPMA, IPRP, ISPE};
+use hf_base::kinds::IPRP;
 use hf_base::{OpenFault, ReadRefusal, Series, TryClone};
 use hf_box::BoxView;
-use hf_prop::{
-    Body, Held, Iprp, Pick, Prop, axis_of, mirror, read_iprp, size_of, turn, turn_of, window,
-    window_of,
-};
+use hf_prop::{Held, Iprp, Pick, Prop, mirror, read_iprp, turn};
 use std::alloc::Global;
 use std::test::Fail;
 
@@ -18,10 +15,6 @@ use std::test::Fail;
 const BOTH: &[u8] = b"\0\0\0\x1aipco\0\0\0\x09irot\x01\0\0\0\x09imir\0\
 \0\0\0\x15ipma\0\0\0\0\0\0\0\x01\0\x01\x02\x81\x02\
 \0\0\0\x19ipma\x01\0\0\x01\0\0\0\x01\0\x01\x11\x70\x02\x80\x01\0\0";
-
-/// The body of a `clap` of the upper left 2000 by 1000 of a picture of 4032 by 3024.
-const CORNER: &[u8] =
-    b"\0\0\x07\xd0\0\0\0\x01\0\0\x03\xe8\0\0\0\x01\xff\xff\xf8\x10\0\0\0\x02\xff\xff\xf8\x18\0\0\0\x02";
 
 /// Entries of the table of many.
 const MANY: u16 = 4096;
@@ -96,27 +89,6 @@ fn held_properties_are_copied(rt: HostRuntime) -> Result<(), Fail> {
 }
 
 #[test]
-fn a_second_ipco_and_cut_bodies_are_refused(rt: HostRuntime) -> Result<(), Fail> {
-    let twice = b"\0\0\0\x08ipco\0\0\0\x09free\0\0\0\0\x08ipco";
-    assert_eq!(rt;
-        refusal(rt.alloc(), twice),
-        Some(OpenFault::Unfit(ReadRefusal::Double {
-            kind: IPCO,
-            at: 125
-        }))
-    );
-    let short = b"\0\0\0\x14ipma\0\0\0\0\0\0\0\x01\0\x01\x02\x81";
-    assert_eq!(rt;
-        refusal(rt.alloc(), short),
-        Some(OpenFault::Unfit(ReadRefusal::BadRecord {
-            kind: IPMA,
-            at: 108
-        }))
-    );
-    Ok(())
-}
-
-#[test]
 fn many_entries_are_read(rt: HostRuntime) -> Result<(), Fail> {
     let mut body = Vec::new(rt.alloc());
     body.extend_from_slice(b"\0\0\x40\x10ipma\0\0\0\0\0\0")?;
@@ -134,35 +106,5 @@ fn many_entries_are_read(rt: HostRuntime) -> Result<(), Fail> {
         refusal(rt.alloc(), &body),
         Some(OpenFault::Unfit(ReadRefusal::DoubleAssoc { id: 7 }))
     );
-    Ok(())
-}
-
-#[test]
-fn properties_are_viewed_and_made(rt: HostRuntime) -> Result<(), Fail> {
-    let size = Prop {
-        kind: ISPE,
-        body: Body::lent(b"\0\0\0\0\0\0\x0f\xc0\0\0\x0b\xd0"),
-    };
-    assert_eq!(rt; size_of(&size), Some((4032, 3024)));
-    assert_eq!(rt; turn_of(&turn(3)), Some(3));
-    assert_eq!(rt; axis_of(&mirror(1)), Some(1));
-    let corner = window(0, 0, 2000, 1000, 4032, 3024);
-    assert_eq!(rt; corner.kind, CLAP);
-    assert_eq!(rt; corner.body.as_slice(), CORNER);
-    assert_eq!(rt; window_of(&corner), Some((2000, 1000)));
-    Ok(())
-}
-
-#[test]
-fn equal_bytes_are_equal_bodies(rt: HostRuntime) -> Result<(), Fail> {
-    let lent = Body::lent(b"\x01");
-    let mut bytes = [0u8; 32];
-    bytes[0] = 1;
-    let small = Body::small(bytes, 1);
-    assert_eq!(rt; lent, small);
-    assert_eq!(rt; lent.copy(), small.copy());
-    assert!(rt; small < Body::lent(b"\x01\0"));
-    assert_eq!(rt; turn(1).copy(), turn(1));
-    assert!(rt; mirror(1) < turn(0));
     Ok(())
 }

@@ -15,4 +15,3 @@ pub mod Plans
 pub mod PlansWorked
 pub mod Readers
 pub mod Starts
-pub mod TestStores

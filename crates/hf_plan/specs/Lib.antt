@@ -8,6 +8,5 @@ pub mod LongOffsets
 pub mod Places
 pub mod Plan
 pub mod Seen
-pub mod TestStores
 pub mod Unwritten
 pub mod WorkedPlans

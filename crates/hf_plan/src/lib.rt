@@ -12,6 +12,3 @@ pub mod worked_plans;
 pub use planned::Plan;
 pub use planning::plan;
 pub use sizes::Sizes;
-
-#[cfg(test)]
-mod tests;

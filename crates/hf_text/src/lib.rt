@@ -22,6 +22,3 @@ pub use listing::say_list;
 pub use outcome::{Outcome, status};
 pub use rows::say_rows;
 pub use words::{Command, WordsFault, read_words};
-
-#[cfg(test)]
-mod tests;

@@ -10,6 +10,3 @@ pub mod worked;
 
 pub use buffer::trial_buffer;
 pub use building::trial_store;
-
-#[cfg(test)]
-mod tests;

@@ -22,3 +22,5 @@ mod redacted;
 mod refused;
 #[cfg(test)]
 mod tests;
+#[cfg(test)]
+mod texts;

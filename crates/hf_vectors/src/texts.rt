@@ -1,19 +1,13 @@
-use super::*;
+//! Words that are read, and texts that are printed, each with ample memory.
+
+use crate::making::words_of;
 use hf_base::kinds::META;
 use hf_base::{FourCc, ReadRefusal};
 use hf_box::BoxRow;
 use hf_desk::MemoryDesk;
 use hf_store::Reason;
-use std::alloc::Global;
+use hf_text::{Command, EditWord, Outcome, WordsFault, line_of, read_words, say_rows, status};
 use std::test::Fail;
-
-fn words_of(alloc: Global, words: &[&str]) -> Result<Vec<String>, Fail> {
-    let mut all = Vec::new(alloc);
-    for word in words {
-        all.push(String::from_str(alloc, word)?)?;
-    }
-    Ok(all)
-}
 
 /// The place of usage, where the words are no command.
 fn usage_of(read: Result<Command, WordsFault>) -> Option<usize> {
@@ -21,48 +15,6 @@ fn usage_of(read: Result<Command, WordsFault>) -> Option<usize> {
         Err(WordsFault::Usage { at }) => Some(at),
         _ => None,
     }
-}
-
-#[test]
-fn words_that_are_no_command_have_a_place(rt: HostRuntime) -> Result<(), Fail> {
-    let cases: [(&[&str], usize); 31] = [
-        (&[], 0),
-        (&["show"], 0),
-        (&["list"], 1),
-        (&["list", "a", "b"], 2),
-        (&["boxes"], 1),
-        (&["boxes", "a", "b"], 2),
-        (&["edit"], 1),
-        (&["edit", "a"], 2),
-        (&["edit", "a", "b", "remove"], 4),
-        (&["edit", "a", "b", "remove", "01"], 4),
-        (&["edit", "a", "b", "remove", "+1"], 4),
-        (&["edit", "a", "b", "remove", "4294967296"], 4),
-        (&["edit", "a", "b", "x", "1"], 3),
-        (&["edit", "a", "b", "remove", "1", "remove", "x"], 6),
-        (&["edit", "a", "b", "primary", "x"], 4),
-        (&["edit", "a", "b", "drop", "1"], 5),
-        (&["edit", "a", "b", "drop", "1", "isp"], 5),
-        (&["edit", "a", "b", "show", "1", "drop", "1", "ispé"], 7),
-        (&["edit", "a", "b", "rotate", "1", "01"], 5),
-        (&["edit", "a", "b", "thumb", "c", "1"], 4),
-        (&["edit", "a", "b", "xmp", "1"], 5),
-        (&["edit", "a", "b", "crop", "1", "2", "3", "4"], 8),
-        (&["check", "a", "b"], 2),
-        (&["extract", "a", "x", "b"], 2),
-        (&["extract", "a", "1", "b", "c"], 4),
-        (&["redact", "a"], 2),
-        (&["redact", "a", "b", "c"], 3),
-        (&["redact", "a", "b", "bare", "x"], 4),
-        (&["trial", "1", "0", "b"], 2),
-        (&["trial", "1", "257", "b"], 2),
-        (&["trial", "4294967296", "1", "b"], 1),
-    ];
-    for (words, at) in &cases {
-        let words = words_of(rt.alloc(), words)?;
-        assert_eq!(rt; usage_of(read_words(rt.alloc(), &words)), Some(*at));
-    }
-    Ok(())
 }
 
 #[test]
@@ -138,39 +90,6 @@ fn edits_are_read_in_order(rt: HostRuntime) -> Result<(), Fail> {
 }
 
 #[test]
-fn commands_name_their_files_by_place(rt: HostRuntime) -> Result<(), Fail> {
-    let cases: [(&[&str], &str); 7] = [
-        (&["boxes", "a"], "Boxes { input: 1 }"),
-        (&["list", "a"], "List { input: 1 }"),
-        (&["check", "a"], "Check { input: 1 }"),
-        (
-            &["extract", "a", "7", "b"],
-            "Extract { input: 1, id: 7, out: 3 }",
-        ),
-        (
-            &["redact", "a", "b"],
-            "Redact { input: 1, out: 2, bare: false }",
-        ),
-        (
-            &["redact", "a", "b", "bare"],
-            "Redact { input: 1, out: 2, bare: true }",
-        ),
-        (
-            &["trial", "0", "256", "b"],
-            "Trial { seed: 0, n: 256, out: 3 }",
-        ),
-    ];
-    for (words, text) in &cases {
-        let words = words_of(rt.alloc(), words)?;
-        let Ok(command) = read_words(rt.alloc(), &words) else {
-            return Err(Fail::from("the words are a command"));
-        };
-        assert_eq!(rt; format!(in rt.alloc(); "{:?}", command)?.as_str(), *text);
-    }
-    Ok(())
-}
-
-#[test]
 fn one_edit_too_many_is_told(rt: HostRuntime) -> Result<(), Fail> {
     let mut words = words_of(rt.alloc(), &["edit", "a", "b"])?;
     for _ in 0..256 {
@@ -203,32 +122,6 @@ fn rows_of_several_pages_are_said(rt: HostRuntime) -> Result<(), Fail> {
     for said in desk.said().chunks_exact(line.len()) {
         assert_eq!(rt; said, line.as_bytes());
     }
-    Ok(())
-}
-
-#[test]
-fn check_says_one_of_two_lines(rt: HostRuntime) -> Result<(), Fail> {
-    let mut desk = MemoryDesk::new(rt.alloc());
-    assert!(rt; say_check(true, &mut desk).is_ok());
-    assert!(rt; say_check(false, &mut desk).is_ok());
-    assert_eq!(rt; desk.said(), "canonical\nnot canonical\n".as_bytes());
-    Ok(())
-}
-
-#[test]
-fn a_trial_says_its_numbers(rt: HostRuntime) -> Result<(), Fail> {
-    let numbers = TrialNumbers {
-        seed: 1,
-        n: 1,
-        items: 18,
-        bytes: 1217,
-        kept_items: 17,
-        kept_bytes: 1142,
-    };
-    let mut desk = MemoryDesk::new(rt.alloc());
-    assert!(rt; say_trial(&numbers, &mut desk).is_ok());
-    let line = "trial 1 1: 18 items, 1217 bytes; redacted 17 items, 1142 bytes\n";
-    assert_eq!(rt; desk.said(), line.as_bytes());
     Ok(())
 }
 
