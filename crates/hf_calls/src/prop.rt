@@ -6,7 +6,7 @@ ghost use Rattle.hf_box.specs.Boxes.{box_of, end_of};
 use hf_base::kinds::IPRP;
 use hf_base::{OpenFault, ReadRefusal, Series, TryClone};
 use hf_box::BoxView;
-use hf_prop::{Held, Iprp, Pick, Prop, mirror, read_iprp, turn};
+use hf_prop::{Held, Iprp, Pick, mirror, read_iprp, turn};
 use std::alloc::Global;
 use std::test::Fail;
 

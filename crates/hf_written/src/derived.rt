@@ -1,8 +1,8 @@
 //! Derived items in `idat`, and those that are too long for it.
 
-use crate::is_written;
 use crate::plain::{EMPTY, HEIC, PICTURE};
 use crate::rows::{ItemRow, RefRow, StoreRows};
+use crate::writing::is_written;
 use hf_base::FourCc;
 use std::test::Fail;
 

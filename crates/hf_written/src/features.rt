@@ -1,8 +1,8 @@
 //! Every feature at once.
 
-use crate::is_written;
 use crate::plain::{EMPTY, FOUR_BY_FOUR, PICTURE};
 use crate::rows::{GroupRow, ItemRow, PropRow, RefRow, StoreRows};
+use crate::writing::is_written;
 use hf_base::FourCc;
 use hf_head::Brands;
 use std::test::Fail;

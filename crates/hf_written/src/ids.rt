@@ -1,8 +1,8 @@
 //! Ids, and items without bytes.
 
-use crate::is_written;
 use crate::plain::{EMPTY, HEIC, PICTURE};
 use crate::rows::{ItemRow, StoreRows};
+use crate::writing::is_written;
 use std::test::Fail;
 
 /// One picture of three bytes.

@@ -1,8 +1,8 @@
 //! Properties, up to numbers of seven bits, and one more.
 
-use crate::is_written;
 use crate::plain::{FOUR_BY_FOUR, HEIC, PICTURE};
 use crate::rows::{ItemRow, PropRow, StoreRows};
+use crate::writing::is_written;
 use hf_base::FourCc;
 use std::test::Fail;
 

@@ -1,8 +1,8 @@
 //! References and groups.
 
-use crate::is_written;
 use crate::plain::{EMPTY, HEIC, PICTURE};
 use crate::rows::{GroupRow, ItemRow, RefRow, StoreRows};
+use crate::writing::is_written;
 use hf_base::FourCc;
 use std::test::Fail;
 
