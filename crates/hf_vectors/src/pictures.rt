@@ -36,7 +36,12 @@ fn picture_with(alloc: Global, boxes: &[&[u8]], picks: &[u8]) -> Result<Vec<u8>,
 }
 
 /// What edits make of one picture.
-fn made_of_one(alloc: Global, file: &[u8], edits: &[&str], made: &[u8]) -> Result<bool, Fail> {
+fn made_of_one(
+    alloc: Global,
+    file: &[u8],
+    edits: &[&'static str],
+    made: &[u8],
+) -> Result<bool, Fail> {
     let mut words = Vec::from_slice(alloc, &["edit", "a", "b"])?;
     words.extend_from_slice(edits)?;
     let (outcome, bytes, _) = ended(alloc, &[("a", file)], &words)?;
