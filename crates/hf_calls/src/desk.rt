@@ -1,6 +1,8 @@
-//! Reading, making and saying over desks that count and fail.
+//! Reading, making and saying over desks that count and fail, and what a page gathers.
 
-use hf_desk::{MemoryDesk, ReadStop, make_file, read_all, say_all};
+use hf_desk::{
+    Desk, MemoryDesk, PAGE, Page, Put, ReadStop, Say, WriteFault, make_file, read_all, say_all,
+};
 use std::alloc::Global;
 use std::test::Fail;
 
@@ -65,5 +67,43 @@ fn a_file_with_a_long_name_is_made(rt: HostRuntime) -> Result<(), Fail> {
     let mut desk = MemoryDesk::new(alloc);
     make_file(&mut desk, &name, b"abc")?;
     assert_eq!(rt; desk.made(), Some(b"abc".as_slice()));
+    Ok(())
+}
+
+#[test]
+fn pieces_are_put_in_their_order(rt: HostRuntime) -> Result<(), Fail> {
+    let alloc = rt.alloc();
+    let mut desk = MemoryDesk::new(alloc);
+    desk.take_at_most(5000);
+    let full = [2u8; PAGE];
+    let large = [3u8; PAGE + 1];
+    assert!(rt; desk.create("new").is_ok());
+    let mut page: Page<Put> = Page::new();
+    page.give(&[1], &mut desk)?;
+    page.give(&full, &mut desk)?;
+    page.give(&[], &mut desk)?;
+    page.give(&large, &mut desk)?;
+    page.give(&[4, 4], &mut desk)?;
+    page.end(&mut desk)?;
+    let mut all = vec![in alloc; 1u8]?;
+    all.extend_from_slice(&full)?;
+    all.extend_from_slice(&large)?;
+    all.extend_from_slice(&[4, 4])?;
+    assert_eq!(rt; desk.made(), Some(all.as_slice()));
+    Ok(())
+}
+
+#[test]
+fn a_thousand_pieces_are_said_in_three_calls(rt: HostRuntime) -> Result<(), Fail> {
+    let alloc = rt.alloc();
+    let mut desk = MemoryDesk::new(alloc);
+    desk.fail(4)?;
+    let mut page: Page<Say> = Page::new();
+    for _ in 0..1000u32 {
+        page.give(&[7; 20], &mut desk)?;
+    }
+    page.end(&mut desk)?;
+    assert_eq!(rt; desk.said().len(), 20_000);
+    assert_eq!(rt; say_all(&mut desk, &[7]), Err(WriteFault));
     Ok(())
 }
