@@ -15,7 +15,7 @@ use hf_text::EditWord;
 use std::alloc::Global;
 
 /// Why the file of an edit was not read whole.
-#[derive(Clone, Copy, Debug, PartialEq, Eq)]
+#[derive(Clone, Copy)]
 pub struct Unread {
     /// The number of the edit, from 1.
     pub source: u32,

@@ -10,7 +10,7 @@ use hf_store::Reason;
 use hf_text::Outcome;
 
 /// Why a command makes nothing of the files that it read.
-#[derive(Clone, Copy, Debug, PartialEq, Eq)]
+#[derive(Clone, Copy)]
 pub enum Stop {
     /// The file of this source is refused. Source 0 is the input, and the file of an edit has the
     /// number of the edit, from 1.

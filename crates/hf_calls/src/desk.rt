@@ -1,38 +1,8 @@
-//! Reading, making and saying over desks that count and fail, and what a page gathers.
+//! Large files that are read whole, and what a page gathers.
 
-use hf_desk::{
-    Desk, MemoryDesk, PAGE, Page, Put, ReadStop, Say, WriteFault, make_file, read_all, say_all,
-};
+use hf_desk::{Desk, MemoryDesk, PAGE, Page, Put, Say, WriteFault, read_all, say_all};
 use std::alloc::Global;
 use std::test::Fail;
-
-#[test]
-fn the_second_read_fails(rt: HostRuntime) -> Result<(), Fail> {
-    let alloc = rt.alloc();
-    let mut desk = MemoryDesk::new(alloc);
-    desk.add("four", b"abcd")?;
-    desk.fail(2)?;
-    assert_eq!(rt;
-        read_all(alloc, &mut desk, "four", 4).err(),
-        Some(ReadStop::Fault)
-    );
-    let bytes = read_all(alloc, &mut desk, "four", 4)?;
-    assert_eq!(rt; bytes.as_slice(), b"abcd".as_slice());
-    Ok(())
-}
-
-#[test]
-fn a_piece_is_written_byte_by_byte(rt: HostRuntime) -> Result<(), Fail> {
-    let alloc = rt.alloc();
-    let mut desk = MemoryDesk::new(alloc);
-    desk.take_at_most(1);
-    let piece = [7u8; 100];
-    say_all(&mut desk, &piece)?;
-    assert_eq!(rt; desk.said(), piece.as_slice());
-    make_file(&mut desk, "new", &piece)?;
-    assert_eq!(rt; desk.made(), Some(piece.as_slice()));
-    Ok(())
-}
 
 /// So many bytes, which differ from their neighbours.
 fn bytes_of(alloc: Global, count: u32) -> Result<Vec<u8>, Fail> {
@@ -54,19 +24,6 @@ fn files_of_several_pieces_are_read_whole(rt: HostRuntime) -> Result<(), Fail> {
         let read = read_all(alloc, &mut desk, "large", 1 << 30)?;
         assert!(rt; read.as_slice() == bytes.as_slice());
     }
-    Ok(())
-}
-
-#[test]
-fn a_file_with_a_long_name_is_made(rt: HostRuntime) -> Result<(), Fail> {
-    let alloc = rt.alloc();
-    let mut name = String::new(alloc);
-    for _ in 0..30 {
-        name.push_str("0123456789")?;
-    }
-    let mut desk = MemoryDesk::new(alloc);
-    make_file(&mut desk, &name, b"abc")?;
-    assert_eq!(rt; desk.made(), Some(b"abc".as_slice()));
     Ok(())
 }
 

@@ -1,21 +1,14 @@
-//! References and groups, read and written.
+//! References up to the limit, and groups that are copied.
 
-ghost use Rattle.std.specs.Prelude.{◌≡◌, ◌<◌, ◌≤◌, ◌^◌, length, IfOk};
-ghost use Rattle.hf_base.specs.declared.limits.TheConstants.{META};
-ghost use Rattle.hf_box.specs.Head.{box_len};
-ghost use Rattle.hf_links.specs.Grpl.{group_body, group_of};
+ghost use Rattle.std.specs.Prelude.{◌≡◌, ◌<◌, ◌^◌, length, IfOk};
 
 use hf_base::kinds::{DIMG, GRPL, IREF};
 use hf_base::{FourCc, Ids, NoMemory, OpenFault, ReadRefusal, TryClone};
 use hf_box::BoxView;
 use hf_desk::{Desk, MemoryDesk};
-use hf_links::{Group, RefBox, put_group, put_ref, read_grpl, read_iref};
+use hf_links::{Group, RefBox, put_ref, read_grpl, read_iref};
 use std::alloc::Global;
 use std::test::Fail;
-
-/// An `iref` of a thumbnail, and of an item made of three others, with ids of two bytes.
-const NARROW: [u8; 44] =
-    *b"\0\0\0\x2ciref\0\0\0\0\0\0\0\x0ethmb\0\x02\0\x01\0\x01\0\0\0\x12dimg\0\x04\0\x03\0\x03\0\x01\0\x03";
 
 /// A `grpl` of two alternatives, and of a group with a version, flags and a tail.
 const GROUPS: [u8; 62] =
@@ -60,20 +53,6 @@ fn ids(alloc: Global, count: u16) -> Result<Ids, NoMemory>
 }
 
 #[test]
-fn references_are_read_in_file_order(rt: HostRuntime) -> Result<(), Fail> {
-    let links = links(rt.alloc(), &NARROW[8..])
-        .ok()
-        .ok_or("the references are read")?;
-    assert_eq!(rt; links.len(), 2);
-    assert_eq!(rt; links[0].kind, FourCc(*b"thmb"));
-    assert_eq!(rt; links[0].from, 2);
-    assert_eq!(rt; links[0].to.as_slice(), [1].as_slice());
-    assert_eq!(rt; links[1].kind, DIMG);
-    assert_eq!(rt; links[1].to.as_slice(), [3, 1, 3].as_slice());
-    Ok(())
-}
-
-#[test]
 fn groups_are_read_and_copied(rt: HostRuntime) -> Result<(), Fail> {
     let groups = groups(rt.alloc(), &GROUPS[8..])
         .ok()
@@ -85,17 +64,6 @@ fn groups_are_read_and_copied(rt: HostRuntime) -> Result<(), Fail> {
     assert_eq!(rt; (copy.version, copy.flags, copy.id), (255, 0x01_02_03, 0));
     assert_eq!(rt; copy.entities.as_slice(), [70_000].as_slice());
     assert_eq!(rt; copy.tail, b"\xca\xfe".as_slice());
-    Ok(())
-}
-
-#[test]
-fn a_narrow_box_of_references_is_put(rt: HostRuntime) -> Result<(), Fail> {
-    let mut desk = MemoryDesk::new(rt.alloc());
-    desk.create("new")?;
-    let mut to = Ids::new(rt.alloc());
-    to.push(1)?;
-    put_ref(FourCc(*b"thmb"), 2, &to, false, &mut desk)?;
-    assert_eq!(rt; desk.made(), Some(&NARROW[12..26]));
     Ok(())
 }
 
@@ -125,32 +93,5 @@ fn a_table_may_have_as_many_rows_as_the_limit_says(rt: HostRuntime) -> Result<()
             at: 30 + body.len() as u64,
         }))
     );
-    Ok(())
-}
-
-/// A group with these entities.
-fn group(entities: Ids) -> Group<'static>
-    requires { length entities < 2 ^ 16 }
-    ensures flags { result.flags < 256 ^ 3 }
-    ensures size { box_len (length (group_body (group_of result))) ≤ META }
-{
-    Group {
-        kind: FourCc(*b"ster"),
-        version: 255,
-        flags: 0x01_02_03,
-        id: 0,
-        entities,
-        tail: b"\xca\xfe",
-    }
-}
-
-#[test]
-fn a_group_is_put_with_its_tail(rt: HostRuntime) -> Result<(), Fail> {
-    let mut desk = MemoryDesk::new(rt.alloc());
-    desk.create("new")?;
-    let mut entities = Ids::new(rt.alloc());
-    entities.push(70_000)?;
-    put_group(&group(entities), &mut desk)?;
-    assert_eq!(rt; desk.made(), Some(&GROUPS[36..]));
     Ok(())
 }

@@ -7,7 +7,7 @@ use hf_links::Group;
 use hf_prop::Iprp;
 
 /// The boxes of `meta` that are read.
-#[derive(Clone, Copy, Debug)]
+#[derive(Clone, Copy)]
 pub struct MetaParts<'a> {
     /// The handler.
     pub hdlr: BoxView<'a>,

@@ -14,7 +14,7 @@ ghost use Rattle.hf_store.specs.Sizes.{Inner as StatedInner, iinf_size as iinf_s
 use crate::tally::Counts;
 
 /// The bytes of the boxes inside `iinf`, `iref`, `ipco` and `grpl`, headers included.
-#[derive(Clone, Copy, Debug)]
+#[derive(Clone, Copy)]
 pub struct Inner {
     /// Inside `iinf`.
     pub infes: u64,

@@ -1,11 +1,9 @@
-//! Worked rows of the commands, as tests over `hf_app::run`. What they compare with follows from the
-//! standards and from this project's rules, and not from what the program wrote.
+//! Commands over files whose devices fail, that are cut off, and that are large, as tests over `hf_app::run`. Worked rows of
+//! the commands are those of `hf_rows`.
 #![tactic(auto)]
 
 #[cfg(test)]
-mod added;
-#[cfg(test)]
-mod applied;
+mod failing;
 #[cfg(test)]
 mod large;
 #[cfg(test)]
@@ -13,14 +11,4 @@ mod making;
 #[cfg(test)]
 mod parts;
 #[cfg(test)]
-mod photograph;
-#[cfg(test)]
-mod pictures;
-#[cfg(test)]
-mod redacted;
-#[cfg(test)]
 mod refused;
-#[cfg(test)]
-mod tests;
-#[cfg(test)]
-mod texts;

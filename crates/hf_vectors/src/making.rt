@@ -50,51 +50,6 @@ pub fn file_of(alloc: Global, data: &[u8], boxes: &[&[u8]]) -> Result<Vec<u8>, F
     Ok(file)
 }
 
-/// Puts an entry of `iloc`: a place in the file, or in `idat`.
-pub fn put_place(
-    body: &mut Vec<u8>,
-    id: u16,
-    method: u8,
-    place: u32,
-    size: u32,
-) -> Result<(), Fail> {
-    body.extend_from_slice(&id.to_be_bytes())?;
-    body.extend_from_slice(&[0, method, 0, 0, 0, 1])?;
-    body.extend_from_slice(&place.to_be_bytes())?;
-    body.extend_from_slice(&size.to_be_bytes())?;
-    Ok(())
-}
-
-/// An item with bytes: its id, and they.
-pub type Placed<'a> = (u16, &'a [u8]);
-
-/// The file of a `meta` of these boxes and the `iloc` of these items, whose bytes lie behind it in the
-/// same order.
-pub fn canonical_of(alloc: Global, boxes: &[&[u8]], items: &[Placed]) -> Result<Vec<u8>, Fail> {
-    let mut inner = Vec::from_slice(alloc, b"\0\0\0\0")?;
-    for b in boxes {
-        inner.extend_from_slice(b)?;
-    }
-    let count = u16::try_from(items.len()).unwrap_or(0);
-    let front = u32::try_from(inner.len()).unwrap_or(0);
-    let places = u32::from(count).saturating_mul(16).saturating_add(16);
-    let mut place = front.saturating_add(places).saturating_add(40);
-    let mut body = Vec::from_slice(alloc, b"\x01\0\0\0\x44\0")?;
-    body.extend_from_slice(&count.to_be_bytes())?;
-    let mut data = Vec::new(alloc);
-    for (id, bytes) in items {
-        let size = u32::try_from(bytes.len()).unwrap_or(0);
-        put_place(&mut body, *id, 0, place, size)?;
-        place = place.saturating_add(size);
-        data.extend_from_slice(bytes)?;
-    }
-    put_box(&mut inner, b"iloc", &[&body])?;
-    let mut file = Vec::from_slice(alloc, &ONE[..24])?;
-    put_box(&mut file, b"meta", &[&inner])?;
-    put_box(&mut file, b"mdat", &[&data])?;
-    Ok(file)
-}
-
 /// A file with its name.
 pub type Named<'a> = (&'a str, &'a [u8]);
 
@@ -121,11 +76,4 @@ pub fn ended(
     let made = Vec::from_slice(alloc, desk.made().unwrap_or(b""))?;
     let said = Vec::from_slice(alloc, desk.said())?;
     Ok((outcome, made, said))
-}
-
-/// Whether a piece, which is not empty, stands somewhere in these bytes.
-pub fn has_piece(bytes: &[u8], piece: &[u8]) -> bool
-    requires { 0 < length piece.now }
-{
-    bytes.windows(piece.len()).any(|window| window == piece)
 }

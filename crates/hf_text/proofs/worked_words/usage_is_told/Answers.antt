@@ -5,4 +5,4 @@ use Rattle.hf_text.proofs.worked_words.usage_is_told.Goals as goal
 
 pub returns : goal.returns
 unfolding digits number_of count_of bare_of operand end_in
-returns c = record { none = refl; name = refl; list = refl; extract = refl; longer = refl; redact = refl; bare = refl; few = refl; many = refl; seed = refl }
+returns c = record { none = refl; name = refl; boxes = refl; list = refl; check = refl; out = refl; extract = refl; longer = refl; redact = refl; bare = refl; few = refl; many = refl; seed = refl }

@@ -1,0 +1,122 @@
+//! Worked rows of the commands: files that `rows.txt` states byte by byte, commands over them, and what comes of each,
+//! which is printed. What is to be printed follows from the standards and from this project's rules, and not from what
+//! the program wrote.
+#![tactic(auto)]
+
+mod files;
+mod stop;
+
+use crate::files::{Files, bytes_of, desk_of, name_of};
+use crate::stop::Stop;
+use hf_app::{Outcome, line_of, run, status};
+use std::alloc::Global;
+use std::collections::BTreeMap;
+use std::process::ExitCode;
+use std::{fs, str};
+
+/// Prints what was said, each line behind a bar.
+fn print_said(rt: &HostRuntime, said: &[u8]) -> Result<(), Stop> {
+    let text = str::from_utf8(said).ok().ok_or(Stop::Row)?;
+    for line in text.lines() {
+        println!(rt; "| {line}")?;
+    }
+    Ok(())
+}
+
+/// Prints how a command ended: nothing where it is done, else its exit status and the line of its outcome.
+fn print_outcome(rt: &HostRuntime, outcome: &Outcome) -> Result<(), Stop> {
+    if *outcome != Outcome::Done {
+        let line = line_of(rt.alloc(), outcome)?;
+        let number = status(outcome);
+        print!(rt; "{number} {line}")?;
+    }
+    Ok(())
+}
+
+/// Prints the name of the bytes that were made, or how many they are.
+fn print_made(rt: &HostRuntime, files: &Files, made: &[u8]) -> Result<(), Stop> {
+    if let Some(name) = name_of(files, made) {
+        println!(rt; "made {name}")?;
+    } else {
+        let length = made.len();
+        println!(rt; "made {length} bytes")?;
+    }
+    Ok(())
+}
+
+/// The words of a command.
+fn words_of(alloc: Global, text: &str) -> Result<Vec<String>, Stop> {
+    let mut words = Vec::new(alloc);
+    for word in text.split_whitespace() {
+        words.push(String::from_str(alloc, word)?)?;
+    }
+    Ok(words)
+}
+
+/// Runs a command over the files, and prints what comes of it. Where a file is made, it is given.
+fn run_row(rt: &HostRuntime, files: &Files, words: &str) -> Result<Option<Vec<u8>>, Stop> {
+    let alloc = rt.alloc();
+    println!(rt; "> {words}")?;
+    let mut desk = desk_of(alloc, files)?;
+    let outcome = run(alloc, &words_of(alloc, words)?, &mut desk);
+    print_outcome(rt, &outcome)?;
+    print_said(rt, desk.said())?;
+    let made = desk.into_made();
+    if let Some(made) = &made {
+        print_made(rt, files, made)?;
+    }
+    Ok(made)
+}
+
+/// Runs a command, whose file is kept under a name.
+fn keep_row(rt: &HostRuntime, files: &mut Files, row: &str) -> Result<(), Stop> {
+    let (name, words) = row.split_once(" > ").ok_or(Stop::Row)?;
+    let made = run_row(rt, files, words)?.ok_or(Stop::Row)?;
+    files.insert(String::from_str(rt.alloc(), name)?, made)?;
+    Ok(())
+}
+
+/// Names bytes: pieces behind the name, or those of a file that has this name.
+fn name_row(rt: &HostRuntime, files: &mut Files, row: &str) -> Result<(), Stop> {
+    let alloc = rt.alloc();
+    let (name, bytes) = match row.split_once(' ') {
+        Some((name, pieces)) => (name, bytes_of(alloc, files, pieces)?),
+        None => (row, Vec::new(alloc)),
+    };
+    files.insert(String::from_str(alloc, name)?, bytes)?;
+    Ok(())
+}
+
+/// Reads the rows in order. Lines that begin with two spaces go on with the bytes of the name before them.
+fn run_rows(rt: &HostRuntime) -> Result<(), Stop> {
+    let text = fs::read_to_string(rt, "rows.txt")?;
+    let mut files = BTreeMap::new(rt.alloc());
+    let mut name = "";
+    for line in text.as_str().lines() {
+        if let Some(pieces) = line.strip_prefix("  ") {
+            let bytes = bytes_of(rt.alloc(), &files, pieces)?;
+            let file = files.get_mut(name).ok_or(Stop::Row)?;
+            file.extend_from_slice(&bytes)?;
+        } else if let Some(row) = line.strip_prefix("bytes ") {
+            name = row;
+            name_row(rt, &mut files, row)?;
+        } else if let Some(file) = line.strip_prefix("read ") {
+            let bytes = fs::read(rt, file)?;
+            files.insert(String::from_str(rt.alloc(), file)?, bytes)?;
+        } else if let Some(words) = line.strip_prefix("> ") {
+            let _ = run_row(rt, &files, words)?;
+        } else if let Some(row) = line.strip_prefix("keep ") {
+            keep_row(rt, &mut files, row)?;
+        } else if line.starts_with('#') {
+            println!(rt; "{line}")?;
+        }
+    }
+    Ok(())
+}
+
+fn main(rt: HostRuntime) -> ExitCode {
+    match run_rows(&rt) {
+        Ok(()) => ExitCode::SUCCESS,
+        Err(_) => ExitCode::from(1),
+    }
+}
