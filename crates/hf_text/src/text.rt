@@ -1,6 +1,6 @@
 //! Types and numbers as text, on the stack.
 
-ghost use Rattle.std.specs.Prelude.{◌≡◌, ◌+◌, ◌<◌, ◌≤◌, ◌++◌, length, take};
+ghost use Rattle.std.specs.Prelude.{◌≡◌, ◌+◌, ◌<◌, ◌≤◌, ◌++◌, IfSome, false, length, slice_get, take};
 ghost use Rattle.std.specs.List.{flat_map};
 ghost use Rattle.hf_text.specs.Texts.{byte_text as text_of_byte, hex_digit_of, is_plain as is_plain_byte, type_text as text_of_type};
 
@@ -55,6 +55,7 @@ pub fn byte_text(byte: u8) -> ArrayString<4>
 pub fn plain_count(bytes: &[u8]) -> usize
     ensures within { result ≤ length bytes.now }
     ensures plain { flat_map text_of_byte (take result bytes.now) ≡ take result bytes.now }
+    ensures most { IfSome (slice_get bytes.now result) (λ byte. is_plain_byte byte ≡ false) }
 {
     let mut count = 0;
     while count < bytes.len() && is_plain(bytes[count]) {
