@@ -76,7 +76,7 @@ fn keep_row(rt: &HostRuntime, files: &mut Files, row: &str) -> Result<(), Stop> 
     Ok(())
 }
 
-/// Names bytes: pieces behind the name, or those of a file that has this name.
+/// Names bytes: those of the pieces behind the name, or none as yet, where they stand on the lines below it.
 fn name_row(rt: &HostRuntime, files: &mut Files, row: &str) -> Result<(), Stop> {
     let alloc = rt.alloc();
     let (name, bytes) = match row.split_once(' ') {
@@ -117,6 +117,9 @@ fn run_rows(rt: &HostRuntime) -> Result<(), Stop> {
 fn main(rt: HostRuntime) -> ExitCode {
     match run_rows(&rt) {
         Ok(()) => ExitCode::SUCCESS,
-        Err(_) => ExitCode::from(1),
+        Err(stop) => {
+            let _ = eprintln!(rt; "{stop}");
+            ExitCode::from(1)
+        }
     }
 }

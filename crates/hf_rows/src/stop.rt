@@ -3,6 +3,7 @@
 use hex::FromHexError;
 use hf_base::NoMemory;
 use std::alloc::{AllocError, AllocFailed};
+use std::fmt::{self, Display, Formatter, Write};
 use std::io;
 
 /// Why the rows stop: there is no memory, a line is no row, or a file is not read or a line not printed.
@@ -11,6 +12,16 @@ pub enum Stop {
     Memory,
     Row,
     Device,
+}
+
+impl Display for Stop {
+    fn fmt<W: Write>(&self, f: &mut Formatter<W>) -> fmt::Result {
+        f.write_str(match self {
+            Stop::Memory => "no memory",
+            Stop::Row => "a line is no row",
+            Stop::Device => "a file is not read, or a line not printed",
+        })
+    }
 }
 
 impl From<NoMemory> for Stop {
