@@ -51,7 +51,7 @@ fn main(rt: HostRuntime) -> ExitCode {
     };
     let mut desk = RealDesk::new(&rt);
     let outcome = run(rt.alloc(), &words, &mut desk);
-    if outcome != Outcome::Done {
+    if !matches!(outcome, Outcome::Done) {
         report(&rt, &outcome);
     }
     ExitCode::from(status(&outcome))

@@ -25,7 +25,7 @@ impl<T: Drop> From<AllocFailed<T>> for NoMemory {
 /// Why a file is refused. `at` is the place of a box in the file, in bytes from 0, `kind` its
 /// type, and `id` an item or group. Which files are refused, and the order of the reasons, is this
 /// project's own rule.
-#[derive(Clone, Copy, Debug, PartialEq, Eq)]
+#[derive(Clone, Copy)]
 pub enum ReadRefusal {
     /// 1 to 7 bytes are left where a box begins, or its size is 1 and fewer than 16 are left.
     Short { at: u64 },
@@ -115,7 +115,7 @@ pub enum ReadRefusal {
 }
 
 /// Why a file is not opened.
-#[derive(Clone, Copy, Debug, PartialEq, Eq)]
+#[derive(Clone, Copy)]
 pub enum OpenFault {
     /// The file is refused.
     Unfit(ReadRefusal),

@@ -9,7 +9,7 @@ use std::alloc::Global;
 use std::marker::Model;
 
 /// Ids of items or groups, in order. It keeps its allocator.
-#[derive(Debug, Drop)]
+#[derive(Drop)]
 pub struct Ids {
     list: Vec<u32>,
 }

@@ -28,7 +28,7 @@ impl TryClone for Extent {
 pub type Extents = Series<Extent>;
 
 /// An entry of `iloc` (ItemLocationBox of ISO/IEC 14496-12): where the bytes of an item lie.
-#[derive(Debug, Drop)]
+#[derive(Drop)]
 pub struct Loc {
     /// The id of the item.
     pub id: u32,
@@ -44,7 +44,7 @@ pub struct Loc {
 
 /// A box of `iref` (SingleItemTypeReferenceBox of ISO/IEC 14496-12): references of one type from an
 /// item.
-#[derive(Debug, Drop)]
+#[derive(Drop)]
 pub struct RefBox {
     /// The type of the references.
     pub kind: FourCc,

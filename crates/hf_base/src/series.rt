@@ -16,7 +16,7 @@ pub trait TryClone: Sized {
 }
 
 /// A list inside a record. It keeps its allocator.
-#[derive(Debug, Drop)]
+#[derive(Drop)]
 pub struct Series<T> {
     elements: Vec<T>,
 }

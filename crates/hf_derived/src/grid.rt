@@ -9,7 +9,7 @@ use crate::side::{side_at, side_of};
 use hf_pieces::Pieces;
 
 /// What the payload of a `grid` says: an image of tiles of one size, row by row.
-#[derive(Clone, Copy, Debug, PartialEq, Eq)]
+#[derive(Clone, Copy, PartialEq, Eq)]
 pub struct Grid {
     /// Rows of tiles, 1 to 256.
     pub rows: u16,

@@ -9,7 +9,7 @@ use crate::side::{side_at, side_of};
 use hf_pieces::Pieces;
 
 /// What the payload of an `iovl` says: images that lie over each other.
-#[derive(Clone, Copy, Debug, PartialEq, Eq)]
+#[derive(Clone, Copy, PartialEq, Eq)]
 pub struct Overlay {
     /// Whether width, height and offsets take four bytes each: bit 0 of the flags.
     pub long: bool,

@@ -15,7 +15,7 @@ use hf_box::BoxView;
 use hf_desk::{Desk, Page, Put, WriteFault};
 
 /// The brands of a file (FileTypeBox of ISO/IEC 14496-12).
-#[derive(Clone, Copy, Debug)]
+#[derive(Clone, Copy)]
 pub struct Brands<'a> {
     /// The major brand.
     pub major: FourCc,

@@ -12,7 +12,7 @@ use hf_base::kinds::{INFE, MIME, URI};
 use hf_base::{FourCc, ReadRefusal, front_id, front_kind, front_version, front16, id_width};
 
 /// What a file says of an item (ItemInfoEntry of ISO/IEC 14496-12). No string has a zero byte.
-#[derive(Clone, Copy, Debug)]
+#[derive(Clone, Copy)]
 pub struct Info<'a> {
     /// The id of the item, at least 1.
     pub id: u32,

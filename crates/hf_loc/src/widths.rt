@@ -9,7 +9,7 @@ ghost use Rattle.hf_loc.specs.Views.{width_of, widths_in};
 use hf_base::{ReadRefusal, front16, front32, front64};
 
 /// The bytes of an offset, a length, a base or an index.
-#[derive(Clone, Copy, Debug, PartialEq, Eq)]
+#[derive(Clone, Copy, PartialEq, Eq)]
 pub enum Width {
     /// The field is left out.
     Zero,
@@ -33,7 +33,7 @@ impl Width {
 }
 
 /// The bytes of all fields that differ from one `iloc` to another.
-#[derive(Clone, Copy, Debug)]
+#[derive(Clone, Copy)]
 pub struct Widths {
     /// Whether an id takes four bytes, and not two.
     pub wide: bool,

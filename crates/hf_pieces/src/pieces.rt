@@ -9,7 +9,7 @@ use std::marker::Model;
 
 /// Bytes in slices that are lent, one behind the other, of at most 2^62 bytes. No slice is empty, and
 /// none outlives the file that it lies in.
-#[derive(Debug, Drop)]
+#[derive(Drop)]
 pub struct Pieces<'a> {
     slices: Vec<&'a [u8]>,
     sum: u64,

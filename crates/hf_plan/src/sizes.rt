@@ -12,7 +12,7 @@ ghost use Rattle.hf_plan.specs.Plan.{sizes_of};
 use hf_store::{Counts, Store};
 
 /// The whole length of each box in bytes, header included, and 0 for a box that is absent.
-#[derive(Clone, Copy, Debug)]
+#[derive(Clone, Copy)]
 pub struct Sizes {
     /// The box of the items.
     pub meta: u64,

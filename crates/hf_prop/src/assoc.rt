@@ -4,7 +4,7 @@
 use hf_base::{NoMemory, Series, TryClone};
 
 /// An association: a property of an item.
-#[derive(Clone, Copy, Debug, PartialEq, Eq)]
+#[derive(Clone, Copy, PartialEq, Eq)]
 pub struct Pick {
     /// Whether a reader that does not know the property may not show the item.
     pub essential: bool,
@@ -22,7 +22,7 @@ impl TryClone for Pick {
 pub type Picks = Series<Pick>;
 
 /// An entry of `ipma`: an item, and its associations.
-#[derive(Debug, Drop)]
+#[derive(Drop)]
 pub struct Assoc {
     /// The id of the item.
     pub item: u32,

@@ -14,7 +14,7 @@ use std::hash::{Hash, Hasher};
 use std::marker::Model;
 
 /// Where the bytes are.
-#[derive(Debug, Drop)]
+#[derive(Drop)]
 enum Kept<'a> {
     /// In a file.
     Lent(&'a [u8]),
@@ -24,7 +24,7 @@ enum Kept<'a> {
 
 /// The bytes of a property: those of a file, which are lent, or at most 32 of its own. Equality, order and
 /// hash look at the bytes alone.
-#[derive(Debug, Drop)]
+#[derive(Drop)]
 pub struct Body<'a> {
     kept: Kept<'a>,
 }

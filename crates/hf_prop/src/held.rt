@@ -5,7 +5,7 @@ use hf_base::{NoMemory, TryClone};
 
 /// A property as an item holds it, with the essential mark of its association
 /// (ItemPropertyAssociationBox of ISO/IEC 23008-12).
-#[derive(Debug, Drop)]
+#[derive(Drop)]
 pub struct Held<'a> {
     /// Whether a reader that does not know the property may not show the item.
     pub essential: bool,

@@ -21,7 +21,7 @@ use hf_box::{BoxView, InnerBoxes};
 use std::alloc::Global;
 
 /// The properties of a file, and which items have them.
-#[derive(Debug, Drop)]
+#[derive(Drop)]
 pub struct Iprp<'a> {
     /// The properties of `ipco`, in order; their numbers count from 1.
     pub props: PropList<'a>,

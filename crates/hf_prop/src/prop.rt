@@ -6,7 +6,7 @@ use crate::body::Body;
 use hf_base::{FourCc, NoMemory, Series, TryClone};
 
 /// A property: a box of `ipco` (ItemPropertyContainerBox of ISO/IEC 23008-12).
-#[derive(PartialEq, Eq, PartialOrd, Ord, Hash, Debug, Drop)]
+#[derive(PartialEq, Eq, PartialOrd, Ord, Hash, Drop)]
 pub struct Prop<'a> {
     /// The type of the box.
     pub kind: FourCc,

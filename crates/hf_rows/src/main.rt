@@ -25,7 +25,7 @@ fn print_said(rt: &HostRuntime, said: &[u8]) -> Result<(), Stop> {
 
 /// Prints how a command ended: nothing where it is done, else its exit status and the line of its outcome.
 fn print_outcome(rt: &HostRuntime, outcome: &Outcome) -> Result<(), Stop> {
-    if *outcome != Outcome::Done {
+    if !matches!(outcome, Outcome::Done) {
         let line = line_of(rt.alloc(), outcome)?;
         let number = status(outcome);
         print!(rt; "{number} {line}")?;

@@ -2,7 +2,7 @@
 
 /// Why an edit of a store is refused. Where several reasons hold, the one that stands first here is
 /// given. The reasons and their order are this project's own rule.
-#[derive(Clone, Copy, Debug, PartialEq, Eq)]
+#[derive(Clone, Copy, PartialEq, Eq)]
 pub enum Reason {
     /// No item has the id.
     NoItem,

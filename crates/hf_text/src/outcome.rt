@@ -7,7 +7,7 @@ use hf_base::ReadRefusal;
 use hf_store::Reason;
 
 /// How a run ends. The outcomes, their numbers and their lines are this project's own.
-#[derive(Clone, Copy, Debug, PartialEq, Eq)]
+#[derive(Clone, Copy)]
 pub enum Outcome {
     /// What the command asks for was said, or made.
     Done,

@@ -63,7 +63,7 @@ fn offsets_take_eight_bytes_from_2_32_on(rt: HostRuntime) -> Result<(), Fail> {
         put_items(&mut file, rt.alloc(), *count, *last)?;
         let mut desk = CountingDesk::new();
         desk.add("a", &file);
-        assert_eq!(rt; run(rt.alloc(), &words, &mut desk), Outcome::Done);
+        assert!(rt; matches!(run(rt.alloc(), &words, &mut desk), Outcome::Done));
         assert_eq!(rt; desk.made_len(), *length);
     }
     Ok(())
@@ -76,7 +76,7 @@ fn the_boxes_of_a_large_file_are_said(rt: HostRuntime) -> Result<(), Fail> {
     let mut desk = CountingDesk::new();
     desk.add("a", &file);
     let words = words_of(rt.alloc(), &["boxes", "a"])?;
-    assert_eq!(rt; run(rt.alloc(), &words, &mut desk), Outcome::Done);
+    assert!(rt; matches!(run(rt.alloc(), &words, &mut desk), Outcome::Done));
     assert_eq!(rt; desk.said_len(), 130);
     Ok(())
 }

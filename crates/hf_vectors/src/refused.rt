@@ -3,37 +3,31 @@
 use crate::making::{file_of, put_box, words_of};
 use crate::parts::{HDLR, ONE, PITM};
 use hf_app::run;
-use hf_base::ReadRefusal;
 use hf_desk::MemoryDesk;
-use hf_text::Outcome;
+use hf_text::line_of;
 use std::alloc::Global;
 use std::test::Fail;
 
-/// What `list` answers to a file.
-fn answer(alloc: Global, file: &[u8]) -> Result<Outcome, Fail> {
+/// The line of what `list` answers to a file.
+fn answer(alloc: Global, file: &[u8]) -> Result<String, Fail> {
     let mut desk = MemoryDesk::new(alloc);
     desk.add("a", file)?;
     let words = words_of(alloc, &["list", "a"])?;
-    Ok(run(alloc, &words, &mut desk))
+    Ok(line_of(alloc, &run(alloc, &words, &mut desk))?)
 }
 
-/// A refusal of the input.
-fn unfit(why: ReadRefusal) -> Outcome {
-    Outcome::Unfit { source: 0, why }
-}
-
-/// What `list` answers to the first bytes of a file of one picture, so many of them.
-fn of_front(count: usize) -> ReadRefusal {
+/// The line of what `list` answers to the first bytes of a file of one picture, so many of them.
+fn of_front(count: usize) -> &'static str {
     match count {
-        0 => ReadRefusal::NoFtyp,
-        1..=7 => ReadRefusal::Short { at: 0 },
-        8..=23 => ReadRefusal::BadSize { at: 0 },
-        24 => ReadRefusal::NoMeta,
-        25..=31 => ReadRefusal::Short { at: 24 },
-        32..=181 => ReadRefusal::BadSize { at: 24 },
-        182 => ReadRefusal::OutOfFile { id: 1 },
-        183..=189 => ReadRefusal::Short { at: 182 },
-        _ => ReadRefusal::BadSize { at: 182 },
+        0 => "heif: source 0: NoFtyp\n",
+        1..=7 => "heif: source 0: Short 0\n",
+        8..=23 => "heif: source 0: BadSize 0\n",
+        24 => "heif: source 0: NoMeta\n",
+        25..=31 => "heif: source 0: Short 24\n",
+        32..=181 => "heif: source 0: BadSize 24\n",
+        182 => "heif: source 0: OutOfFile 1\n",
+        183..=189 => "heif: source 0: Short 182\n",
+        _ => "heif: source 0: BadSize 182\n",
     }
 }
 
@@ -41,7 +35,7 @@ fn of_front(count: usize) -> ReadRefusal {
 fn a_file_that_is_cut_off_is_refused(rt: HostRuntime) -> Result<(), Fail> {
     for count in 0..193 {
         let front = ONE.get(..count).ok_or("the file has 193 bytes")?;
-        assert_eq!(rt; answer(rt.alloc(), front)?, unfit(of_front(count)));
+        assert_eq!(rt; answer(rt.alloc(), front)?.as_str(), of_front(count));
     }
     Ok(())
 }
@@ -86,23 +80,19 @@ fn chain(alloc: Global, count: u16, short: u16) -> Result<Vec<u8>, Fail> {
 
 #[test]
 fn scattered_bytes_are_refused(rt: HostRuntime) -> Result<(), Fail> {
-    let cases: [(u16, u16, Outcome); 4] = [
-        (20, 100, Outcome::Done),
+    let cases = [
+        (20, 100, ""),
+        (21, 100, "heif: source 0: TooScattered 2097151\n"),
+        (25, 100, "heif: source 0: TooScattered 33554431\n"),
         (
-            21,
-            100,
-            unfit(ReadRefusal::TooScattered { count: 2_097_151 }),
+            70,
+            41,
+            "heif: source 0: TooScattered 18446744073709551615\n",
         ),
-        (
-            25,
-            100,
-            unfit(ReadRefusal::TooScattered { count: 33_554_431 }),
-        ),
-        (70, 41, unfit(ReadRefusal::TooScattered { count: u64::MAX })),
     ];
-    for (count, short, outcome) in &cases {
+    for (count, short, line) in &cases {
         let file = chain(rt.alloc(), *count, *short)?;
-        assert_eq!(rt; answer(rt.alloc(), &file)?, *outcome);
+        assert_eq!(rt; answer(rt.alloc(), &file)?.as_str(), *line);
     }
     Ok(())
 }
