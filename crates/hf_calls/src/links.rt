@@ -1,6 +1,7 @@
 //! References up to the limit, and groups that are copied.
 
-ghost use Rattle.std.specs.Prelude.{◌≡◌, ◌<◌, ◌^◌, length, IfOk};
+ghost use Rattle.std.specs.Prelude.{◌≡◌, ◌<◌, ◌≤◌, ◌^◌, length, IfOk};
+ghost use Rattle.hf_base.specs.declared.limits.TheConstants.{LINKS};
 
 use hf_base::kinds::{DIMG, GRPL, IREF};
 use hf_base::{FourCc, Ids, NoMemory, OpenFault, ReadRefusal, TryClone};
@@ -67,31 +68,42 @@ fn groups_are_read_and_copied(rt: HostRuntime) -> Result<(), Fail> {
     Ok(())
 }
 
-#[test]
-fn a_table_may_have_as_many_rows_as_the_limit_says(rt: HostRuntime) -> Result<(), Fail> {
-    let alloc = rt.alloc();
-    let to = ids(alloc, 65_535)?;
+/// A table of 64 references to 65,535 items each, and of one to none: its rows, and then one row too many, of
+/// 14 bytes.
+fn rows_of(alloc: Global, to: &Ids) -> Result<Vec<u8>, Fail>
+    requires { length to.now ≤ LINKS }
+{
     let none = Ids::new(alloc);
     let mut desk = MemoryDesk::new(alloc);
     desk.create("new")?;
     desk.put(b"\x01\0\0\0")?;
     for from in 0..64 {
-        put_ref(DIMG, from, &to, true, &mut desk)?;
+        put_ref(DIMG, from, to, true, &mut desk)?;
     }
     put_ref(DIMG, 64, &none, true, &mut desk)?;
-    let body = desk.made().ok_or("a file is made")?;
+    Ok(desk.into_made().ok_or("a file is made")?)
+}
+
+/// Whether the row at this place is told to be one too many.
+fn is_too_large(fault: OpenFault, place: u64) -> bool {
+    match fault {
+        OpenFault::Unfit(ReadRefusal::TooLarge { kind, at }) => kind == IREF && at == place,
+        _ => false,
+    }
+}
+
+#[test]
+fn a_table_may_have_as_many_rows_as_the_limit_says(rt: HostRuntime) -> Result<(), Fail> {
+    let alloc = rt.alloc();
+    let to = ids(alloc, 65_535)?;
+    let body = rows_of(alloc, &to)?;
     assert!(rt; body.len() > 14 && body.len() < 1 << 30);
     let whole = links(alloc, &body[..body.len() - 14])
         .ok()
         .ok_or("the table is at its limit")?;
     assert_eq!(rt; whole.len(), 64);
     assert_eq!(rt; whole[63].to.as_slice(), to.as_slice());
-    let place = 30 + body.len() as u64;
-    assert!(rt;
-        matches!(
-        links(alloc, body),
-        Err(OpenFault::Unfit(ReadRefusal::TooLarge { kind, at })) if kind == IREF && at == place
-    )
-    );
+    let fault = links(alloc, &body).err().ok_or("a row is too many")?;
+    assert!(rt; is_too_large(fault, 30 + body.len() as u64));
     Ok(())
 }
