@@ -1,6 +1,6 @@
 //! How commands end where a device fails.
 
-use crate::making::{Named, desk_of, ended, words_of};
+use crate::making::{Named, desk_of, made_by, words_of};
 use crate::parts::ONE;
 use hf_app::run;
 use hf_desk::MemoryDesk;
@@ -43,7 +43,7 @@ fn what_is_said_breaks_off_where_a_write_fails(rt: HostRuntime) -> Result<(), Fa
 fn a_failed_call_leaves_nothing_or_a_front(rt: HostRuntime) -> Result<(), Fail> {
     let files: [Named; 2] = [("a", ONE), ("t", b"II")];
     let list = ["edit", "a", "b", "exif", "1", "t"];
-    let (_, whole, _) = ended(rt.alloc(), &files, &list)?;
+    let whole = made_by(rt.alloc(), &files, &list)?;
     let words = words_of(rt.alloc(), &list)?;
     for call in 1..6u64 {
         let mut desk = desk_of(rt.alloc(), &files)?;

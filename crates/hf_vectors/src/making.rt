@@ -6,7 +6,6 @@ ghost use Rattle.hf_desk.specs.Memory.{memory_outside};
 use crate::parts::ONE;
 use hf_app::run;
 use hf_desk::MemoryDesk;
-use hf_text::Outcome;
 use std::alloc::Global;
 use std::test::Fail;
 
@@ -64,16 +63,10 @@ pub fn desk_of(alloc: Global, files: &[Named]) -> Result<MemoryDesk, Fail>
     Ok(desk)
 }
 
-/// How a command over these files ends, what it makes, and what it says.
-pub fn ended(
-    alloc: Global,
-    files: &[Named],
-    words: &[&str],
-) -> Result<(Outcome, Vec<u8>, Vec<u8>), Fail> {
+/// The file that a command over these files makes; no bytes where it makes none.
+pub fn made_by(alloc: Global, files: &[Named], words: &[&str]) -> Result<Vec<u8>, Fail> {
     let mut desk = desk_of(alloc, files)?;
     let words = words_of(alloc, words)?;
-    let outcome = run(alloc, &words, &mut desk);
-    let made = Vec::from_slice(alloc, desk.made().unwrap_or(b""))?;
-    let said = Vec::from_slice(alloc, desk.said())?;
-    Ok((outcome, made, said))
+    run(alloc, &words, &mut desk);
+    Ok(desk.into_made().unwrap_or(Vec::new(alloc)))
 }
