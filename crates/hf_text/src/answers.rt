@@ -10,7 +10,7 @@ use hf_desk::{Desk, WriteFault, say_all};
 use itoa::Buffer;
 
 /// The numbers of a trial, and of what its redaction keeps.
-#[derive(Clone, Copy, Debug, PartialEq, Eq)]
+#[derive(Clone, Copy)]
 pub struct TrialNumbers {
     /// The seed.
     pub seed: u32,

@@ -13,7 +13,7 @@ use hf_base::{FourCc, NoMemory};
 use std::alloc::Global;
 
 /// A change of a file's items. A file is named by the place of its word, from 0.
-#[derive(Clone, Copy, Debug, PartialEq, Eq)]
+#[derive(Clone, Copy)]
 pub enum EditWord {
     /// Takes an item out.
     Remove {

@@ -11,7 +11,7 @@ use hf_base::NoMemory;
 use std::alloc::Global;
 
 /// A command. Each file is named by the place of its word, from 0.
-#[derive(Debug, Drop)]
+#[derive(Drop)]
 pub enum Command {
     /// Says the boxes of the file `input`.
     Boxes {
@@ -53,7 +53,7 @@ pub enum Command {
 }
 
 /// Why words are not read.
-#[derive(Clone, Copy, Debug, PartialEq, Eq)]
+#[derive(Clone, Copy)]
 pub enum WordsFault {
     /// The words are no command: `at` is the place, from 0, of the first word that no command has
     /// there after the words before it, or the number of words where they end too early.
