@@ -1,9 +1,11 @@
 -- Commands as the code has them, where a file is named by the place of its word.
-use Rattle.std.specs.Prelude.{◌≡◌, ◌<◌, ℕ, List, [], ◌∷◌, ◌++◌, length, get_or, map, Result, Ok, Err, IfOk, IsOk}
+use Rattle.std.specs.Prelude.{◌≡◌, ◌<◌, ℕ, List, [], ◌∷◌, ◌++◌, length, get_or, map, Option, Some, None, Result, Ok, Err, IfOk, IsOk, codes}
 use Rattle.std.specs.List.{All}
 use Rattle.std.specs.Global.{Vec}
 use Rattle.hf_base.specs.declared.fault.NoMemory.{NoMemory as NoRoom}
-use Rattle.hf_text.specs.Words.{EditWord, Remove, Exif, Xmp, Thumb, Primary, Rotate, Mirror, Crop, Hide, Show, Drop, Command, Boxes, ListFile, CheckFile, Extract, EditFile, Redact, Trial}
+use Rattle.hf_text.specs.Words.{EditWord, Remove, Exif, Xmp, Thumb, Primary, Rotate, Mirror, Crop, Hide, Show, Drop, Command, Boxes, ListFile, CheckFile, Extract, EditFile, Redact, Trial, Form, with_id, with_number, with_four, with_kind, with_file}
+use Rattle.hf_text.specs.declared.edits.EditName.{EditName}
+use Rattle.hf_text.specs.declared.edits.EditName.TheVariants as names
 use Rattle.hf_text.specs.declared.edits.EditWord.{EditWord as PlacedEdit}
 use Rattle.hf_text.specs.declared.edits.EditWord.TheVariants as placed
 use Rattle.hf_text.specs.declared.words.Command.{Command as PlacedCommand}
@@ -92,6 +94,25 @@ IsPushed old edit new =
 abbrev pub IsEditRead : List (List ℕ) → Result EditWord ℕ → Result PlacedEdit ℕ → Type 0
 IsEditRead words read (Ok edit) = read ≡ Ok (edit_of words edit)
 IsEditRead words read (Err at) = read ≡ Err at
+
+-- the form of an edit with this name
+abbrev pub form_of : EditName → Form EditWord
+form_of names.Remove = with_id (codes "remove") Remove
+form_of names.Exif = with_file (codes "exif") Exif
+form_of names.Xmp = with_file (codes "xmp") Xmp
+form_of names.Thumb = with_file (codes "thumb") Thumb
+form_of names.Primary = with_id (codes "primary") Primary
+form_of names.Rotate = with_number (codes "rotate") Rotate
+form_of names.Mirror = with_number (codes "mirror") Mirror
+form_of names.Crop = with_four (codes "crop") Crop
+form_of names.Hide = with_id (codes "hide") Hide
+form_of names.Show = with_id (codes "show") Show
+form_of names.Drop = with_kind (codes "drop") Drop
+
+-- what is read where the first word is this name, or no name of an edit
+abbrev pub named_read : Option EditName → ℕ → List (List ℕ) → Result EditWord ℕ
+named_read None at words = Err at
+named_read (Some name) at words = (form_of name).read at words
 
 -- the word at the place that is read
 abbrev pub IsNameRead : List (List ℕ) → Result (List ℕ) ℕ → Result ℕ ℕ → Type 0

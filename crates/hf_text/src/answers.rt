@@ -5,12 +5,12 @@ ghost use Rattle.hf_desk.specs.Calls.{Says};
 ghost use Rattle.hf_text.specs.Lines.{number_field};
 ghost use Rattle.hf_text.specs.Answers.{check_text, size_text, trial_text};
 
+use crate::text::push_number;
 use arrayvec::ArrayString;
 use hf_desk::{Desk, WriteFault, say_all};
-use itoa::Buffer;
 
 /// The numbers of a trial, and of what its redaction keeps.
-#[derive(Clone, Copy, PartialEq, Eq)]
+#[derive(Clone, Copy)]
 pub struct TrialNumbers {
     /// The seed.
     pub seed: u32,
@@ -44,23 +44,21 @@ fn size(items: u64, bytes: u64) -> ArrayString<64>
     ensures { result.bytes ≡ size_text items bytes }
 {
     let mut text = ArrayString::new();
-    text.push(' ');
-    text.push_str(Buffer::new().format(items));
-    text.push_str(" items, ");
-    text.push_str(Buffer::new().format(bytes));
+    push_number(&mut text, items);
+    text.push_str(" items,");
+    push_number(&mut text, bytes);
     text.push_str(" bytes");
     text
 }
 
 /// The words in front of the sizes of a trial.
-fn words_of_trial(seed: u32, n: u32) -> ArrayString<32>
+fn words_of_trial(seed: u32, n: u32) -> ArrayString<48>
     ensures { result.bytes ≡ codes "trial" ++ number_field seed ++ number_field n ++ codes ":" }
 {
     let mut text = ArrayString::new();
-    text.push_str("trial ");
-    text.push_str(Buffer::new().format(seed));
-    text.push(' ');
-    text.push_str(Buffer::new().format(n));
+    text.push_str("trial");
+    push_number(&mut text, u64::from(seed));
+    push_number(&mut text, u64::from(n));
     text.push(':');
     text
 }

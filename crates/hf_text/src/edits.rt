@@ -1,10 +1,11 @@
 //! The words of edits, read from left to right.
 
-ghost use Rattle.std.specs.Prelude.{◌≡◌, ◌<◌, ◌≤◌, ℕ, List, length, drop, map, string_bytes, IfOk};
+ghost use Rattle.std.specs.Prelude.{◌≡◌, ◌<◌, ◌≤◌, ℕ, List, Ok, length, drop, map, string_bytes, IfOk};
 ghost use Rattle.std.specs.List.{All};
 ghost use Rattle.hf_base.specs.declared.limits.TheConstants.{EDITS as MOST};
-ghost use Rattle.hf_text.specs.Words.{edit_forms, edit_read, edits_read, form_read, words_of_edit};
-ghost use Rattle.hf_text.specs.Commands.{AreRead, EditNamesWords, IsEditRead, IsPushed, edit_of};
+ghost use Rattle.hf_text.specs.Words.{edit_forms, edit_read, edits_read, form_read, number_in, words_of_edit};
+ghost use Rattle.hf_text.specs.declared.edits.EditName.TheVariants.{Crop as crop};
+ghost use Rattle.hf_text.specs.Commands.{AreRead, EditNamesWords, IsEditRead, IsPushed, edit_of, form_of, named_read};
 
 use crate::places::{read_kind, read_name, read_number};
 use crate::words::WordsFault;
@@ -13,7 +14,7 @@ use hf_base::{FourCc, NoMemory};
 use std::alloc::Global;
 
 /// A change of a file's items. A file is named by the place of its word, from 0.
-#[derive(Clone, Copy, PartialEq, Eq)]
+#[derive(Clone, Copy)]
 pub enum EditWord {
     /// Takes an item out.
     Remove {
@@ -87,58 +88,95 @@ impl EditWord {
     }
 }
 
-/// The edit with this name, which stands at this place, or the place of the first word that no edit
-/// has there.
-fn read_named(name: &str, words: &[String], at: usize) -> Result<EditWord, usize>
-    requires { at < length words.now }
-    ensures read { IsEditRead (map string_bytes words.now) (form_read edit_forms at name.now (drop at (map string_bytes words.now))) result }
+/// The name of an edit, which stands first of its words.
+#[derive(Clone, Copy)]
+enum EditName {
+    Remove,
+    Exif,
+    Xmp,
+    Thumb,
+    Primary,
+    Rotate,
+    Mirror,
+    Crop,
+    Hide,
+    Show,
+    Drop,
+}
+
+/// The name that a word is.
+fn name_of(word: &str) -> Option<EditName>
+    ensures { (at : ℕ) (words : List (List ℕ)) → form_read edit_forms at word.now words ≡ named_read result at words }
+{
+    match word {
+        "remove" => Some(EditName::Remove),
+        "exif" => Some(EditName::Exif),
+        "xmp" => Some(EditName::Xmp),
+        "thumb" => Some(EditName::Thumb),
+        "primary" => Some(EditName::Primary),
+        "rotate" => Some(EditName::Rotate),
+        "mirror" => Some(EditName::Mirror),
+        "crop" => Some(EditName::Crop),
+        "hide" => Some(EditName::Hide),
+        "show" => Some(EditName::Show),
+        "drop" => Some(EditName::Drop),
+        _ => None,
+    }
+}
+
+/// The cut of an item whose first word stands at this place, or the place of the first word that no
+/// cut has there.
+fn read_crop(id: u32, words: &[String], at: usize) -> Result<EditWord, usize>
+    requires within { at < length words.now }
+    requires id { number_in at (drop at (map string_bytes words.now)) 1 ≡ Ok id }
+    ensures read { IsEditRead (map string_bytes words.now) ((form_of crop).read at (drop at (map string_bytes words.now))) result }
     ensures names { IfOk result (λ edit. EditNamesWords (map string_bytes words.now) edit) }
 {
+    let x = read_number(words, at, 2)?;
+    let y = read_number(words, at, 3)?;
+    let w = read_number(words, at, 4)?;
+    let h = read_number(words, at, 5)?;
+    Ok(EditWord::Crop { id, x, y, w, h })
+}
+
+/// The edit with this name, which stands at this place, or the place of the first word that no edit
+/// of this name has there.
+fn read_named(name: EditName, words: &[String], at: usize) -> Result<EditWord, usize>
+    requires { at < length words.now }
+    ensures read { IsEditRead (map string_bytes words.now) ((form_of name).read at (drop at (map string_bytes words.now))) result }
+    ensures names { IfOk result (λ edit. EditNamesWords (map string_bytes words.now) edit) }
+{
+    let id = read_number(words, at, 1)?;
     match name {
-        "remove" => Ok(EditWord::Remove {
-            id: read_number(words, at, 1)?,
-        }),
-        "exif" => Ok(EditWord::Exif {
-            id: read_number(words, at, 1)?,
+        EditName::Remove => Ok(EditWord::Remove { id }),
+        EditName::Exif => Ok(EditWord::Exif {
+            id,
             file: read_name(words, at, 2)?,
         }),
-        "xmp" => Ok(EditWord::Xmp {
-            id: read_number(words, at, 1)?,
+        EditName::Xmp => Ok(EditWord::Xmp {
+            id,
             file: read_name(words, at, 2)?,
         }),
-        "thumb" => Ok(EditWord::Thumb {
-            id: read_number(words, at, 1)?,
+        EditName::Thumb => Ok(EditWord::Thumb {
+            id,
             file: read_name(words, at, 2)?,
         }),
-        "primary" => Ok(EditWord::Primary {
-            id: read_number(words, at, 1)?,
-        }),
-        "rotate" => Ok(EditWord::Rotate {
-            id: read_number(words, at, 1)?,
+        EditName::Primary => Ok(EditWord::Primary { id }),
+        EditName::Rotate => Ok(EditWord::Rotate {
+            id,
             quarters: read_number(words, at, 2)?,
         }),
-        "mirror" => Ok(EditWord::Mirror {
-            id: read_number(words, at, 1)?,
+        EditName::Mirror => Ok(EditWord::Mirror {
+            id,
             axis: read_number(words, at, 2)?,
         }),
-        "crop" => Ok(EditWord::Crop {
-            id: read_number(words, at, 1)?,
-            x: read_number(words, at, 2)?,
-            y: read_number(words, at, 3)?,
-            w: read_number(words, at, 4)?,
-            h: read_number(words, at, 5)?,
-        }),
-        "hide" => Ok(EditWord::Hide {
-            id: read_number(words, at, 1)?,
-        }),
-        "show" => Ok(EditWord::Show {
-            id: read_number(words, at, 1)?,
-        }),
-        "drop" => Ok(EditWord::Drop {
-            id: read_number(words, at, 1)?,
+        EditName::Crop => read_crop(id, words, at),
+        EditName::Hide => Ok(EditWord::Hide { id }),
+        EditName::Show => Ok(EditWord::Show { id }),
+        EditName::Drop => Ok(EditWord::Drop {
+            id,
             kind: read_kind(words, at, 2)?,
         }),
-        _ => Err(at),
     }
 }
 
@@ -148,7 +186,10 @@ fn read_edit(words: &[String], at: usize) -> Result<EditWord, usize>
     ensures read { IsEditRead (map string_bytes words.now) (edit_read at (drop at (map string_bytes words.now))) result }
     ensures names { IfOk result (λ edit. EditNamesWords (map string_bytes words.now) edit) }
 {
-    read_named(words[at].as_str(), words, at)
+    match name_of(words[at].as_str()) {
+        Some(name) => read_named(name, words, at),
+        None => Err(at),
+    }
 }
 
 /// One more edit, unless memory was refused before.

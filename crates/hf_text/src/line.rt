@@ -1,14 +1,13 @@
 //! The line of an outcome.
 
-ghost use Rattle.std.specs.Prelude.{◌≡◌, ◌++◌, string_bytes, IfOk, OnOk};
+ghost use Rattle.std.specs.Prelude.{◌≡◌, ◌++◌, codes, string_bytes, IfOk, OnOk};
 ghost use Rattle.hf_text.specs.Lines.{line_text, number_field, type_field};
 ghost use Rattle.hf_text.specs.Parts.{parts_text};
 
 use crate::outcome::Outcome;
 use crate::parts::{Parts, parts_of, parts_of_reason};
 use crate::text::type_text;
-use hf_base::{FourCc, NoMemory, ReadRefusal};
-use hf_store::Reason;
+use hf_base::{FourCc, NoMemory};
 use itoa::Buffer;
 use std::alloc::Global;
 
@@ -44,52 +43,23 @@ fn push_parts(line: &mut String, parts: &Parts) -> Result<(), NoMemory>
     Ok(())
 }
 
-fn usage_line(alloc: Global, at: usize) -> Result<String, NoMemory>
-    ensures { IfOk result (λ line. string_bytes line ≡ line_text (Outcome.Usage at)) }
+/// The line of a text, a number and what stands behind it.
+fn numbered_line(alloc: Global, text: &str, number: u64, behind: &str) -> Result<String, NoMemory>
+    ensures { IfOk result (λ line. string_bytes line ≡ text.now ++ number_field number ++ behind.now) }
 {
-    let mut line = String::from_str(alloc, "heif: no command at word")?;
-    push_number(&mut line, at as u64)?;
-    line.push_str("\n")?;
+    let mut line = String::from_str(alloc, text)?;
+    push_number(&mut line, number)?;
+    line.push_str(behind)?;
     Ok(line)
 }
 
-fn unfit_line(alloc: Global, source: u32, why: &ReadRefusal) -> Result<String, NoMemory>
-    ensures { IfOk result (λ line. string_bytes line ≡ line_text (Outcome.Unfit source why.now)) }
+/// The line of a text, a number, and a name with its fields.
+fn refusal_line(alloc: Global, text: &str, number: u32, parts: &Parts) -> Result<String, NoMemory>
+    ensures { IfOk result (λ line. string_bytes line ≡ text.now ++ number_field number ++ codes ": " ++ parts_text parts.now ++ codes "\n") }
 {
-    let mut line = String::from_str(alloc, "heif: source")?;
-    push_number(&mut line, u64::from(source))?;
-    line.push_str(": ")?;
-    push_parts(&mut line, &parts_of(why))?;
+    let mut line = numbered_line(alloc, text, u64::from(number), ": ")?;
+    push_parts(&mut line, parts)?;
     line.push_str("\n")?;
-    Ok(line)
-}
-
-fn refused_line(alloc: Global, edit: u32, why: &Reason) -> Result<String, NoMemory>
-    ensures { IfOk result (λ line. string_bytes line ≡ line_text (Outcome.Refused edit why.now)) }
-{
-    let mut line = String::from_str(alloc, "heif: edit")?;
-    push_number(&mut line, u64::from(edit))?;
-    line.push_str(": ")?;
-    push_parts(&mut line, &parts_of_reason(why))?;
-    line.push_str("\n")?;
-    Ok(line)
-}
-
-fn no_item_line(alloc: Global, id: u32) -> Result<String, NoMemory>
-    ensures { IfOk result (λ line. string_bytes line ≡ line_text (Outcome.NoSuchItem id)) }
-{
-    let mut line = String::from_str(alloc, "heif: no item")?;
-    push_number(&mut line, u64::from(id))?;
-    line.push_str("\n")?;
-    Ok(line)
-}
-
-fn too_long_line(alloc: Global, source: u32) -> Result<String, NoMemory>
-    ensures { IfOk result (λ line. string_bytes line ≡ line_text (Outcome.TooLong source)) }
-{
-    let mut line = String::from_str(alloc, "heif: source")?;
-    push_number(&mut line, u64::from(source))?;
-    line.push_str(" is too long\n")?;
     Ok(line)
 }
 
@@ -97,16 +67,26 @@ fn too_long_line(alloc: Global, source: u32) -> Result<String, NoMemory>
 pub fn line_of(alloc: Global, outcome: &Outcome) -> Result<String, NoMemory>
     ensures { IfOk result (λ line. string_bytes line ≡ line_text outcome.now) }
 {
-    let fixed = match outcome {
-        Outcome::Usage { at } => return usage_line(alloc, *at),
-        Outcome::Unfit { source, why } => return unfit_line(alloc, *source, why),
-        Outcome::Refused { edit, why } => return refused_line(alloc, *edit, why),
-        Outcome::NoSuchItem { id } => return no_item_line(alloc, *id),
-        Outcome::TooLong { source } => return too_long_line(alloc, *source),
+    let text = match outcome {
+        Outcome::Usage { at } => {
+            return numbered_line(alloc, "heif: no command at word", *at as u64, "\n");
+        }
+        Outcome::Unfit { source, why } => {
+            return refusal_line(alloc, "heif: source", *source, &parts_of(why));
+        }
+        Outcome::Refused { edit, why } => {
+            return refusal_line(alloc, "heif: edit", *edit, &parts_of_reason(why));
+        }
+        Outcome::NoSuchItem { id } => {
+            return numbered_line(alloc, "heif: no item", u64::from(*id), "\n");
+        }
+        Outcome::TooLong { source } => {
+            return numbered_line(alloc, "heif: source", u64::from(*source), " is too long\n");
+        }
         Outcome::Done => "",
         Outcome::ReadFault => "heif: reading failed\n",
         Outcome::WriteFault => "heif: writing failed\n",
         Outcome::NoMemory => "heif: no memory\n",
     };
-    Ok(String::from_str(alloc, fixed)?)
+    Ok(String::from_str(alloc, text)?)
 }

@@ -11,7 +11,7 @@ ghost use Rattle.hf_text.specs.Lines.{number_field, type_field};
 ghost use Rattle.hf_text.specs.Texts.{byte_text};
 ghost use Rattle.hf_text.specs.Listing.{brand_fields, brands_text, entry_text, essential_field, group_text, id_fields, item_text, listing_text, primary_text, prop_text, ref_text, shown_field, string_field};
 
-use crate::text::{byte_text as text_of_byte, plain_count, type_text};
+use crate::text::{byte_text as text_of_byte, plain_count, push_number, push_type};
 use arrayvec::ArrayString;
 use hf_base::{FourCc, Ids, four_at};
 use hf_desk::{Desk, Page, Say, WriteFault};
@@ -19,10 +19,9 @@ use hf_head::Brands;
 use hf_links::Group;
 use hf_prop::Held;
 use hf_store::{Item, Props, RefList, Refs, Store};
-use itoa::Buffer;
 
 /// No words of fixed form have more bytes.
-const WORDS: usize = 64;
+const WORDS: usize = 80;
 
 /// Gives a text.
 fn give_text<const N: usize, D: Desk>(
@@ -40,8 +39,7 @@ fn give_number<D: Desk>(n: u64, page: &mut Page<Say>, desk: &mut D) -> Result<()
     ensures { Gives BySay (D.outside desk.old) page.old (number_field n) result (D.outside desk.new) page.new }
 {
     let mut text: ArrayString<WORDS> = ArrayString::new();
-    text.push(' ');
-    text.push_str(Buffer::new().format(n));
+    push_number(&mut text, n);
     give_text(&text, page, desk)
 }
 
@@ -50,8 +48,7 @@ fn give_kind<D: Desk>(kind: FourCc, page: &mut Page<Say>, desk: &mut D) -> Resul
     ensures { Gives BySay (D.outside desk.old) page.old (type_field kind) result (D.outside desk.new) page.new }
 {
     let mut text: ArrayString<WORDS> = ArrayString::new();
-    text.push(' ');
-    text.push_str(type_text(kind).as_str());
+    push_type(&mut text, kind);
     give_text(&text, page, desk)
 }
 
@@ -114,10 +111,9 @@ fn words_of_brands(major: FourCc, minor: u32) -> ArrayString<WORDS>
     ensures { result.bytes ≡ codes "brands" ++ type_field major ++ number_field minor }
 {
     let mut text = ArrayString::new();
-    text.push_str("brands ");
-    text.push_str(type_text(major).as_str());
-    text.push(' ');
-    text.push_str(Buffer::new().format(minor));
+    text.push_str("brands");
+    push_type(&mut text, major);
+    push_number(&mut text, u64::from(minor));
     text
 }
 
@@ -141,8 +137,8 @@ fn line_of_primary(id: u32) -> ArrayString<WORDS>
     ensures { result.bytes ≡ primary_text id }
 {
     let mut text = ArrayString::new();
-    text.push_str("primary ");
-    text.push_str(Buffer::new().format(id));
+    text.push_str("primary");
+    push_number(&mut text, u64::from(id));
     text.push('\n');
     text
 }
@@ -160,12 +156,10 @@ fn words_of_item(id: u32, kind: FourCc, len: u64, hidden: bool) -> ArrayString<W
     ensures { result.bytes ≡ codes "item" ++ number_field id ++ type_field kind ++ number_field len ++ shown_field hidden }
 {
     let mut text = ArrayString::new();
-    text.push_str("item ");
-    text.push_str(Buffer::new().format(id));
-    text.push(' ');
-    text.push_str(type_text(kind).as_str());
-    text.push(' ');
-    text.push_str(Buffer::new().format(len));
+    text.push_str("item");
+    push_number(&mut text, u64::from(id));
+    push_type(&mut text, kind);
+    push_number(&mut text, len);
     text.push_str(shown(hidden));
     text
 }
@@ -201,10 +195,9 @@ fn line_of_prop(held: &Held<'_>) -> ArrayString<WORDS>
     ensures { result.bytes ≡ prop_text held.now }
 {
     let mut text = ArrayString::new();
-    text.push_str("  prop ");
-    text.push_str(type_text(held.prop.kind).as_str());
-    text.push(' ');
-    text.push_str(Buffer::new().format(held.prop.body.as_slice().len() as u64));
+    text.push_str("  prop");
+    push_type(&mut text, held.prop.kind);
+    push_number(&mut text, held.prop.body.as_slice().len() as u64);
     text.push_str(mark(held.essential));
     text.push('\n');
     text
@@ -229,8 +222,8 @@ fn words_of_refs(kind: FourCc) -> ArrayString<WORDS>
     ensures { result.bytes ≡ codes "  ref" ++ type_field kind }
 {
     let mut text = ArrayString::new();
-    text.push_str("  ref ");
-    text.push_str(type_text(kind).as_str());
+    text.push_str("  ref");
+    push_type(&mut text, kind);
     text
 }
 
@@ -255,7 +248,6 @@ fn give_refs<D: Desk>(refs: &Refs, page: &mut Page<Say>, desk: &mut D) -> Result
 }
 
 /// Gives the lines of an item's properties, and behind them those of its references.
-#[tactic(auto, using(hf_desk::proofs::Paging::gives_then, hf_desk::proofs::Paging::gives_stops))]
 fn give_lists<D: Desk>(
     item: &Item<'_>,
     page: &mut Page<Say>,
@@ -294,10 +286,9 @@ fn words_of_group(id: u32, kind: FourCc) -> ArrayString<WORDS>
     ensures { result.bytes ≡ codes "group" ++ number_field id ++ type_field kind }
 {
     let mut text = ArrayString::new();
-    text.push_str("group ");
-    text.push_str(Buffer::new().format(id));
-    text.push(' ');
-    text.push_str(type_text(kind).as_str());
+    text.push_str("group");
+    push_number(&mut text, u64::from(id));
+    push_type(&mut text, kind);
     text
 }
 

@@ -117,25 +117,26 @@ pub fn parts_of(why: &ReadRefusal) -> Parts
 pub fn parts_of_reason(why: &Reason) -> Parts
     ensures { parts_text result ≡ reason_text why.now }
 {
-    match *why {
-        Reason::NoItem => Parts::bare("NoItem"),
-        Reason::IsPrimary => Parts::bare("IsPrimary"),
-        Reason::Needed { by } => Parts::of_item("Needed", by),
-        Reason::NotImage => Parts::bare("NotImage"),
-        Reason::IsHidden => Parts::bare("IsHidden"),
-        Reason::IsMinor => Parts::bare("IsMinor"),
-        Reason::DonorDerived => Parts::bare("DonorDerived"),
-        Reason::NoSize => Parts::bare("NoSize"),
-        Reason::OutsidePicture => Parts::bare("OutsidePicture"),
-        Reason::BadTurn => Parts::bare("BadTurn"),
-        Reason::BadAxis => Parts::bare("BadAxis"),
-        Reason::NoProperty => Parts::bare("NoProperty"),
-        Reason::IsEssential => Parts::bare("IsEssential"),
-        Reason::PropsFull => Parts::bare("PropsFull"),
-        Reason::KindsFull => Parts::bare("KindsFull"),
-        Reason::ItemsFull => Parts::bare("ItemsFull"),
-        Reason::IdsFull => Parts::bare("IdsFull"),
-        Reason::BodyFull => Parts::bare("BodyFull"),
-        Reason::MetaFull => Parts::bare("MetaFull"),
-    }
+    let name = match *why {
+        Reason::NoItem => "NoItem",
+        Reason::IsPrimary => "IsPrimary",
+        Reason::Needed { by } => return Parts::of_item("Needed", by),
+        Reason::NotImage => "NotImage",
+        Reason::IsHidden => "IsHidden",
+        Reason::IsMinor => "IsMinor",
+        Reason::DonorDerived => "DonorDerived",
+        Reason::NoSize => "NoSize",
+        Reason::OutsidePicture => "OutsidePicture",
+        Reason::BadTurn => "BadTurn",
+        Reason::BadAxis => "BadAxis",
+        Reason::NoProperty => "NoProperty",
+        Reason::IsEssential => "IsEssential",
+        Reason::PropsFull => "PropsFull",
+        Reason::KindsFull => "KindsFull",
+        Reason::ItemsFull => "ItemsFull",
+        Reason::IdsFull => "IdsFull",
+        Reason::BodyFull => "BodyFull",
+        Reason::MetaFull => "MetaFull",
+    };
+    Parts::bare(name)
 }

@@ -5,7 +5,7 @@ ghost use Rattle.hf_desk.specs.Calls.{Says};
 ghost use Rattle.hf_desk.specs.Pages.{BySay, Gives};
 ghost use Rattle.hf_text.specs.Texts.{indent as indent_of, row_text, rows_text};
 
-use crate::text::type_text;
+use crate::text::{push_number, push_type};
 use arrayvec::ArrayString;
 use hf_box::BoxRow;
 use hf_desk::{Desk, Page, Say, WriteFault};
@@ -26,14 +26,11 @@ fn indent(depth: u8) -> &'static str
 fn text_of_row(row: &BoxRow) -> ArrayString<ROW>
     ensures { result.bytes ≡ row_text row.now }
 {
-    let kind = type_text(row.kind);
     let mut text = ArrayString::new();
     text.push_str(indent(row.depth));
     text.push_str(Buffer::new().format(row.at));
-    text.push(' ');
-    text.push_str(kind.as_str());
-    text.push(' ');
-    text.push_str(Buffer::new().format(row.size));
+    push_type(&mut text, row.kind);
+    push_number(&mut text, row.size);
     text.push('\n');
     text
 }

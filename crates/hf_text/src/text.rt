@@ -2,10 +2,12 @@
 
 ghost use Rattle.std.specs.Prelude.{◌≡◌, ◌+◌, ◌<◌, ◌≤◌, ◌++◌, IfSome, false, length, slice_get, take};
 ghost use Rattle.std.specs.List.{flat_map};
+ghost use Rattle.hf_text.specs.Lines.{number_field, type_field};
 ghost use Rattle.hf_text.specs.Texts.{byte_text as text_of_byte, hex_digit_of, is_plain as is_plain_byte, type_text as text_of_type};
 
 use arrayvec::ArrayString;
 use hf_base::FourCc;
+use itoa::Buffer;
 
 /// Whether a byte prints as itself.
 fn is_plain(byte: u8) -> bool
@@ -75,4 +77,24 @@ pub fn type_text(kind: FourCc) -> ArrayString<16>
     push_byte(&mut text, c);
     push_byte(&mut text, d);
     text
+}
+
+/// Adds a space and a number, of at most 20 digits.
+pub fn push_number<const N: usize>(text: &mut ArrayString<N>, n: u64)
+    requires { length text.old.bytes + 21 ≤ N }
+    ensures bytes { text.new.bytes ≡ text.old.bytes ++ number_field n }
+    ensures short { length text.new.bytes ≤ length text.old.bytes + 21 }
+{
+    text.push(' ');
+    text.push_str(Buffer::new().format(n));
+}
+
+/// Adds a space and a type, of at most 16 bytes.
+pub fn push_type<const N: usize>(text: &mut ArrayString<N>, kind: FourCc)
+    requires { length text.old.bytes + 17 ≤ N }
+    ensures bytes { text.new.bytes ≡ text.old.bytes ++ type_field kind }
+    ensures short { length text.new.bytes ≤ length text.old.bytes + 17 }
+{
+    text.push(' ');
+    text.push_str(type_text(kind).as_str());
 }

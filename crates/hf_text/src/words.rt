@@ -53,7 +53,7 @@ pub enum Command {
 }
 
 /// Why words are not read.
-#[derive(Clone, Copy, PartialEq, Eq)]
+#[derive(Clone, Copy)]
 pub enum WordsFault {
     /// The words are no command: `at` is the place, from 0, of the first word that no command has
     /// there after the words before it, or the number of words where they end too early.

@@ -57,14 +57,19 @@ same_grid n bytes ispe b p = λ j. grid_of n (b j) (p j)
 pub same_exif : (n : ℕ) (bytes : List ℕ) → bytes ≡ exif_bytes → exif_of n bytes ≡ exif n
 same_exif n bytes b = λ j. exif_of n (b j)
 
-pub trial_is : (seed n : ℕ) (brands : Brands) (items with_grid tiles : List Item) (g x : Item) (groups : List Group)
-    → brands ≡ heic → items ≡ with_grid ++ x ∷ [] → with_grid ≡ tiles ++ g ∷ []
-    → items_of tiles ≡ map (tile seed) (tile_ids n) → item_of g ≡ grid n → item_of x ≡ exif n → groups ≡ []
+-- the grid and its metadata behind other items
+pub items_more : (old with_grid new : List Item) (g x : Item) (first second : Stated) → with_grid ≡ old ++ g ∷ [] → new ≡ with_grid ++ x ∷ []
+    → item_of g ≡ first → item_of x ≡ second → items_of new ≡ items_of old ++ first ∷ second ∷ []
+items_more old with_grid new g x first second f e same_g same_x =
+    let two : items_of with_grid ≡ items_of old ++ item_of g ∷ [] = ap items_of f ∙ map-append item_of old (g ∷ []) in
+    let all = ap items_of e ∙ map-append item_of with_grid (x ∷ []) ∙ ap (λ (is : List Stated). is ++ item_of x ∷ []) two in
+    all ∙ append_assoc (items_of old) (item_of g ∷ []) (item_of x ∷ []) ∙ (λ j. items_of old ++ same_g j ∷ same_x j ∷ [])
+
+pub trial_is : (seed n : ℕ) (brands : Brands) (items tiles : List Item) (g x : Stated) (groups : List Group)
+    → brands ≡ heic → items_of items ≡ items_of tiles ++ g ∷ x ∷ []
+    → items_of tiles ≡ map (tile seed) (tile_ids n) → g ≡ grid n → x ≡ exif n → groups ≡ []
     → record { brands = brands; primary = grid_id n; items = items_of items; groups = groups } ≡ trial_store_of seed n
 unfolding trial_store_of
-trial_is seed n brands items with_grid tiles g x groups b e f ts same_g same_x no_groups =
+trial_is seed n brands items tiles g x groups b all ts same_g same_x no_groups =
     let made : Brands → List Stated → List Group → ItemStore = λ bs is gs. record { brands = bs; primary = grid_id n; items = is; groups = gs } in
-    let two : items_of with_grid ≡ items_of tiles ++ item_of g ∷ [] = ap items_of f ∙ map-append item_of tiles (g ∷ []) in
-    let all = ap items_of e ∙ map-append item_of with_grid (x ∷ []) ∙ ap (λ (is : List Stated). is ++ item_of x ∷ []) two in
-    let joined = all ∙ append_assoc (items_of tiles) (item_of g ∷ []) (item_of x ∷ []) in
-    ap (λ (is : List Stated). made brands is groups) joined ∙ (λ j. made (b j) (ts j ++ same_g j ∷ same_x j ∷ []) (no_groups j))
+    ap (λ (is : List Stated). made brands is groups) all ∙ (λ j. made (b j) (ts j ++ same_g j ∷ same_x j ∷ []) (no_groups j))

@@ -1,6 +1,6 @@
 //! The store of a trial.
 
-ghost use Rattle.std.specs.Prelude.{◌≡◌, ◌≤◌, [], ◌∷◌, length, map, IfOk};
+ghost use Rattle.std.specs.Prelude.{◌≡◌, ◌+◌, ◌^◌, ◌<◌, ◌≤◌, [], ◌∷◌, ◌++◌, length, map, IfOk, OnOk};
 ghost use Rattle.std.specs.List.{flat_map, range_with_len};
 ghost use Rattle.hf_head.specs.Ftyp.{brands_of};
 ghost use Rattle.hf_pieces.specs.Bytes.{joined};
@@ -29,13 +29,16 @@ fn heic() -> Brands<'static>
     }
 }
 
-/// The property of this type and with this body.
-fn prop<'a>(kind: FourCc, body: &'a [u8]) -> Prop<'a>
-    ensures { result ≡ record { kind = kind; body = body.now } }
+/// A property of this type and with this body, as an item holds it.
+fn held<'a>(essential: bool, kind: FourCc, body: &'a [u8]) -> Held<'a>
+    ensures { result ≡ record { essential = essential; prop = record { kind = kind; body = body.now } } }
 {
-    Prop {
-        kind,
-        body: Body::lent(body),
+    Held {
+        essential,
+        prop: Prop {
+            kind,
+            body: Body::lent(body),
+        },
     }
 }
 
@@ -59,19 +62,39 @@ fn one_list(alloc: Global, kind: FourCc, to: Ids) -> Result<Refs, NoMemory>
     Ok(refs)
 }
 
+/// An item with this name that is made of these, and without other texts.
+fn item<'a>(
+    id: u32,
+    kind: FourCc,
+    hidden: bool,
+    name: &'a [u8],
+    body: Pieces<'a>,
+    props: Props<'a>,
+    refs: Refs,
+) -> Item<'a>
+    ensures { item_of result ≡ record { id = id; kind = kind; hidden = hidden; name = name.now; content = []; encoding = []; uri = []; bytes = joined body.entry; props = props.entry; refs = refs } }
+{
+    Item {
+        id,
+        kind,
+        hidden,
+        name,
+        content: b"",
+        encoding: b"",
+        uri: b"",
+        body,
+        props,
+        refs,
+    }
+}
+
 /// The properties of a tile. `NoMemory` comes where memory was refused.
 fn tile_props<'a>(alloc: Global, shares: Shares<'a>) -> Result<Props<'a>, NoMemory>
     ensures { IfOk result (λ props. props ≡ essential_hvcc shares.entry.hvcc.now ∷ optional_ispe shares.entry.tile_ispe.now ∷ []) }
 {
     let mut props = Series::with_capacity(alloc, 2)?;
-    props.push(Held {
-        essential: true,
-        prop: prop(HVCC, shares.hvcc),
-    })?;
-    props.push(Held {
-        essential: false,
-        prop: prop(ISPE, shares.tile_ispe),
-    })?;
+    props.push(held(true, HVCC, shares.hvcc))?;
+    props.push(held(false, ISPE, shares.tile_ispe))?;
     Ok(props)
 }
 
@@ -85,18 +108,10 @@ fn tile<'a>(
     requires { length bytes.now ≤ 65521 }
     ensures { IfOk result (λ item. item_of item ≡ tile_of id bytes.now shares.entry.hvcc.now shares.entry.tile_ispe.now) }
 {
-    Ok(Item {
-        id,
-        kind: HVC1,
-        hidden: true,
-        name: b"",
-        content: b"",
-        encoding: b"",
-        uri: b"",
-        body: pieces(alloc, bytes)?,
-        props: tile_props(alloc, shares)?,
-        refs: Series::new(alloc),
-    })
+    let props = tile_props(alloc, shares)?;
+    let body = pieces(alloc, bytes)?;
+    let refs = Series::new(alloc);
+    Ok(item(id, HVC1, true, b"", body, props, refs))
 }
 
 /// So many tiles, whose bytes and properties are these. `NoMemory` comes where memory was refused.
@@ -121,15 +136,35 @@ fn tiles<'a>(
     Ok(items)
 }
 
-/// The ids of so many tiles. `NoMemory` comes where memory was refused.
-fn ids(alloc: Global, count: u32) -> Result<Ids, NoMemory>
-    ensures { IfOk result (λ ids. ids ≡ range_with_len 1 count) }
+/// So many ids from the first one on. `NoMemory` comes where memory was refused.
+fn ids(alloc: Global, first: u32, count: u32) -> Result<Ids, NoMemory>
+    requires { first + count < 2 ^ 32 }
+    ensures { IfOk result (λ ids. ids ≡ range_with_len first count) }
 {
     let mut ids = Ids::with_capacity(alloc, count as usize)?;
     for k in 0..count {
-        ids.push(k + 1)?;
+        ids.push(first + k)?;
     }
     Ok(ids)
+}
+
+/// The references of this type to so many items from the first id on. `NoMemory` comes where memory
+/// was refused.
+fn refs_to(alloc: Global, kind: FourCc, first: u32, count: u32) -> Result<Refs, NoMemory>
+    requires { first + count < 2 ^ 32 }
+    ensures { IfOk result (λ refs. refs ≡ record { kind = kind; to = range_with_len first count } ∷ []) }
+{
+    let to = ids(alloc, first, count)?;
+    one_list(alloc, kind, to)
+}
+
+/// The properties of the grid. `NoMemory` comes where memory was refused.
+fn grid_props<'a>(alloc: Global, ispe: &'a [u8]) -> Result<Props<'a>, NoMemory>
+    ensures { IfOk result (λ props. props ≡ optional_ispe ispe.now ∷ []) }
+{
+    let mut props = Series::new(alloc);
+    props.push(held(false, ISPE, ispe))?;
+    Ok(props)
 }
 
 /// The grid of `n` rows. `NoMemory` comes where memory was refused.
@@ -138,23 +173,10 @@ fn grid<'a>(alloc: Global, n: u32, shares: Shares<'a>) -> Result<Item<'a>, NoMem
     requires short { length shares.grid.now ≤ 65521 }
     ensures { IfOk result (λ item. item_of item ≡ grid_of n shares.entry.grid.now shares.entry.grid_ispe.now) }
 {
-    let mut props = Series::new(alloc);
-    props.push(Held {
-        essential: false,
-        prop: prop(ISPE, shares.grid_ispe),
-    })?;
-    Ok(Item {
-        id: 16 * n + 1,
-        kind: GRID,
-        hidden: false,
-        name: b"",
-        content: b"",
-        encoding: b"",
-        uri: b"",
-        body: pieces(alloc, shares.grid)?,
-        props,
-        refs: one_list(alloc, DIMG, ids(alloc, 16 * n)?)?,
-    })
+    let refs = refs_to(alloc, DIMG, 1, 16 * n)?;
+    let props = grid_props(alloc, shares.grid_ispe)?;
+    let body = pieces(alloc, shares.grid)?;
+    Ok(item(16 * n + 1, GRID, false, b"", body, props, refs))
 }
 
 /// The metadata of the grid of `n` rows. `NoMemory` comes where memory was refused.
@@ -163,20 +185,27 @@ fn exif<'a>(alloc: Global, n: u32, shares: Shares<'a>) -> Result<Item<'a>, NoMem
     requires short { length shares.exif.now ≤ 65521 }
     ensures { IfOk result (λ item. item_of item ≡ exif_of n shares.entry.exif.now) }
 {
-    let mut to = Ids::new(alloc);
-    to.push(16 * n + 1)?;
-    Ok(Item {
-        id: 16 * n + 2,
-        kind: EXIF,
-        hidden: false,
-        name: b"Exif",
-        content: b"",
-        encoding: b"",
-        uri: b"",
-        body: pieces(alloc, shares.exif)?,
-        props: Series::new(alloc),
-        refs: one_list(alloc, CDSC, to)?,
-    })
+    let refs = refs_to(alloc, CDSC, 16 * n + 1, 1)?;
+    let body = pieces(alloc, shares.exif)?;
+    let props = Series::new(alloc);
+    Ok(item(16 * n + 2, EXIF, false, b"Exif", body, props, refs))
+}
+
+/// Adds the grid of `n` rows, and behind it its metadata. `NoMemory` comes where memory was refused.
+fn push_grid<'a>(
+    alloc: Global,
+    items: &mut ItemList<'a>,
+    n: u32,
+    shares: Shares<'a>,
+) -> Result<(), NoMemory>
+    requires few { n ≤ 256 }
+    requires grid { length shares.grid.now ≤ 65521 }
+    requires exif { length shares.exif.now ≤ 65521 }
+    ensures { OnOk result (items_of items.new ≡ items_of items.old ++ grid_of n shares.entry.grid.now shares.entry.grid_ispe.now ∷ exif_of n shares.entry.exif.now ∷ []) }
+{
+    items.push(grid(alloc, n, shares)?)?;
+    items.push(exif(alloc, n, shares)?)?;
+    Ok(())
 }
 
 /// The parts of the trial of `seed` and `n`. `NoMemory` comes where memory was refused.
@@ -187,8 +216,7 @@ fn parts<'a>(alloc: Global, seed: u32, n: u32, buffer: &'a [u8]) -> Result<Parts
 {
     let shares = shares_of(buffer);
     let mut items = tiles(alloc, seed, 16 * n, shares)?;
-    items.push(grid(alloc, n, shares)?)?;
-    items.push(exif(alloc, n, shares)?)?;
+    push_grid(alloc, &mut items, n, shares)?;
     Ok(Parts {
         brands: heic(),
         primary: 16 * n + 1,

@@ -1,4 +1,4 @@
-use Rattle.std.proofs.Common.{ap, length, ◌∙◌, arith}
+use Rattle.std.proofs.Common.{ap, length, arith}
 use Rattle.hf_links.specs.Grpl.{groups_of}
 use Rattle.hf_trial.proofs.Built.{same_grid, same_exif, trial_is}
 use Rattle.hf_trial.proofs.Cuts.{trial_bytes_hold, are_trial}
@@ -22,7 +22,5 @@ tiles-requires-clause-ispe c =
 pub returns : goal.returns
 returns c =
     let t = are_trial c.args.seed c.args.n c.shares_of-shares.result c.args.buffer.now c.shares_of-shares.ensures c.requires.bytes in
-    let g = c.in_ok-grid.ensures ∙ same_grid c.args.n _ _ t.grid t.grid_ispe in
-    let x = c.in_ok-exif.ensures ∙ same_exif c.args.n _ t.exif in
-    trial_is c.args.seed c.args.n _ _ _ _ _ _ _ c.heic.ensures c.in_ok-push-2.ensures.pushed c.in_ok-push.ensures.pushed
-    c.in_ok-items.ensures g x (ap groups_of c.new.ensures)
+    trial_is c.args.seed c.args.n _ _ _ _ _ _ c.heic.ensures c.in_ok-push_grid.ensures c.in_ok-items.ensures
+    (same_grid c.args.n _ _ t.grid t.grid_ispe) (same_exif c.args.n _ t.exif) (ap groups_of c.new.ensures)
