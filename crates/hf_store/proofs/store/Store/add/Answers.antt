@@ -14,8 +14,7 @@ use Rattle.hf_store.specs.Valid.{Valid}
 use Rattle.hf_store.specs.declared.item.Item.{Item as CodeItem}
 use Rattle.hf_store.specs.declared.store.Store.TheInside.{Inside}
 use Rattle.hf_table.specs.Held.{props_in}
-use Rattle.hf_table.specs.Uses.{HasRoom, Gains, Tallies}
-use Rattle.hf_table.proofs.Lists.{gains-none}
+use Rattle.hf_table.specs.Uses.{Gains, Tallies}
 use Rattle.hf_table.proofs.Stores.{tallies-pushed}
 use Rattle.hf_store.proofs.Pushed.{pushed_room, pushed_counts, still_kept}
 use Rattle.hf_store.proofs.Targets.{targets_pushed}

@@ -1,4 +1,4 @@
-use Rattle.std.proofs.Common.{◌≡◌, subst, Ok, Err}
+use Rattle.std.proofs.Common.{subst, Ok, Err}
 use Rattle.std.specs.Prelude.{OnOk}
 use Rattle.hf_store.specs.Referred.{HasAll, targets_by}
 use Rattle.hf_store.proofs.store.changes.make_room.Goals as goal
