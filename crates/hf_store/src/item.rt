@@ -9,7 +9,7 @@ use hf_prop::Held;
 use hf_table::Holder;
 
 /// The references of one type that an item has (SingleItemTypeReferenceBox of ISO/IEC 14496-12).
-#[derive(Debug, Drop)]
+#[derive(Drop)]
 pub struct RefList {
     /// Their type.
     pub kind: FourCc,
@@ -34,7 +34,7 @@ pub type Props<'a> = Series<Held<'a>>;
 
 /// An item of a file (ISO/IEC 14496-12, ItemInfoEntry): what its entry says, its bytes, its properties
 /// and its references.
-#[derive(Debug, Drop)]
+#[derive(Drop)]
 pub struct Item<'a> {
     /// The id, which no other item has; at least 1.
     pub id: u32,

@@ -17,7 +17,7 @@ use hf_links::Group;
 
 /// What is counted over the items and groups of a store. The greatest number stands for each that is
 /// no less.
-#[derive(Clone, Copy, Debug)]
+#[derive(Clone, Copy)]
 pub struct Counts {
     /// Items.
     pub items: u64,
