@@ -92,7 +92,7 @@ impl Edit<'_> {
 }
 
 /// Why an edit is not made.
-#[derive(Clone, Copy, Debug, PartialEq, Eq)]
+#[derive(Clone, Copy)]
 pub enum EditFault {
     /// There is a reason against it.
     Refused(Reason),
