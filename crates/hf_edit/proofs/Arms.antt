@@ -17,5 +17,8 @@ module _ (s : ItemStore) (edit e : Edit) (is : edit ≡ e) where
   pub reason_in : (result : Option Reason) → why s (edit_of e) ≡ result → result ≡ why s (edit_of edit)
   reason_in result told = sym (ap (λ (x : Edit). why s (edit_of x)) is ∙ told)
 
+  pub step_of : step s (edit_of e) ≡ step s (edit_of edit)
+  step_of = sym (ap (λ (x : Edit). step s (edit_of x)) is)
+
   pub step_in : (new : ItemStore) → new ≡ step s (edit_of e) → new ≡ step s (edit_of edit)
-  step_in new made = made ∙ sym (ap (λ (x : Edit). step s (edit_of x)) is)
+  step_in new made = made ∙ step_of

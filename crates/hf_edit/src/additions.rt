@@ -8,14 +8,14 @@ ghost use Rattle.hf_store.specs.Counts.{counts_of_item, strings_of};
 ghost use Rattle.hf_store.specs.Layout.{in_idat as stands_in_idat};
 ghost use Rattle.hf_store.specs.Seen.{item_of};
 ghost use Rattle.hf_store.specs.Valid.{IsFour};
-ghost use Rattle.hf_edit.specs.Additions.{greatest_id as greatest_id_stated, next_id_of, one_reference as one_reference_stated};
+ghost use Rattle.hf_edit.specs.Additions.{description, greatest_id as greatest_id_stated, next_id_of, one_reference as one_reference_stated, thumbnail_item};
 ghost use Rattle.hf_edit.specs.Seen.{draft_of};
 
 use hf_base::kinds::{CDSC, EXIF, MIME, THMB, URI};
 use hf_base::{FourCc, Ids, NoMemory, Series};
 use hf_pieces::Pieces;
 use hf_prop::Held;
-use hf_store::{Counts, Item, RefList, Refs, Store, in_idat};
+use hf_store::{Counts, Item, Props, RefList, Refs, Store, in_idat};
 use std::alloc::Global;
 
 /// What stands before the bytes of Exif metadata: they begin with their header (ISO/IEC 23008-12, annex A).
@@ -148,29 +148,23 @@ impl<'b, 'a> Draft<'b, 'a> {
         ensures { IfOk result (λ item. item_of item ≡ draft_of self.now of id) }
     {
         match self {
-            Draft::Exif(tiff) => Ok(Item {
-                body: lent(alloc, HEADER_FIRST, tiff)?,
-                refs: one_reference(alloc, CDSC, of)?,
-                ..bare(alloc, id, EXIF, b"")
-            }),
-            Draft::Xmp(text) => Ok(Item {
-                body: lent(alloc, b"", text)?,
-                refs: one_reference(alloc, CDSC, of)?,
-                ..bare(alloc, id, MIME, XMP)
-            }),
-            Draft::Thumb(picture) => Ok(Item {
-                body: picture.body.try_clone()?,
-                props: picture.props.try_clone()?,
-                refs: one_reference(alloc, THMB, of)?,
-                ..bare(alloc, id, picture.kind, b"")
-            }),
+            Draft::Exif(tiff) => metadata(alloc, EXIF, b"", HEADER_FIRST, tiff, of, id),
+            Draft::Xmp(text) => metadata(alloc, MIME, XMP, b"", text, of, id),
+            Draft::Thumb(picture) => thumbnail(alloc, picture, of, id),
         }
     }
 }
 
-/// An item with an id, a type and a content type, and nothing else.
-fn bare<'a>(alloc: Global, id: u32, kind: FourCc, content: &'a [u8]) -> Item<'a>
-    ensures { item_of result ≡ record { id = id; kind = kind; hidden = false; name = []; content = content.entry.now; encoding = []; uri = []; bytes = []; props = []; refs = [] } }
+/// An item that is not hidden and has no name, no encoding and no URI.
+fn plain_item<'a>(
+    id: u32,
+    kind: FourCc,
+    content: &'a [u8],
+    body: Pieces<'a>,
+    props: Props<'a>,
+    refs: Refs,
+) -> Item<'a>
+    ensures { item_of result ≡ record { id = id; kind = kind; hidden = false; name = []; content = content.entry.now; encoding = []; uri = []; bytes = joined body.entry; props = props.entry; refs = refs } }
 {
     Item {
         id,
@@ -180,10 +174,38 @@ fn bare<'a>(alloc: Global, id: u32, kind: FourCc, content: &'a [u8]) -> Item<'a>
         content,
         encoding: b"",
         uri: b"",
-        body: Pieces::new(alloc),
-        props: Series::new(alloc),
-        refs: Series::new(alloc),
+        body,
+        props,
+        refs,
     }
+}
+
+/// Metadata of a type that describes the item with the id `of`: its bytes are `front`, and then `back`.
+fn metadata<'a>(
+    alloc: Global,
+    kind: FourCc,
+    content: &'a [u8],
+    front: &'a [u8],
+    back: &'a [u8],
+    of: u32,
+    id: u32,
+) -> Result<Item<'a>, NoMemory>
+    requires { length (front.now ++ back.now) ≤ 2 ^ 62 }
+    ensures { IfOk result (λ item. item_of item ≡ description kind content.entry.now (front.entry.now ++ back.entry.now) of id) }
+{
+    let body = lent(alloc, front, back)?;
+    let refs = one_reference(alloc, CDSC, of)?;
+    Ok(plain_item(id, kind, content, body, Series::new(alloc), refs))
+}
+
+/// A thumbnail of the item with the id `of`, with the type, bytes and properties of a picture.
+fn thumbnail<'a>(alloc: Global, picture: &Item<'a>, of: u32, id: u32) -> Result<Item<'a>, NoMemory>
+    ensures { IfOk result (λ item. item_of item ≡ thumbnail_item (item_of picture.now) of id) }
+{
+    let body = picture.body.try_clone()?;
+    let props = picture.props.try_clone()?;
+    let refs = one_reference(alloc, THMB, of)?;
+    Ok(plain_item(id, picture.kind, b"", body, props, refs))
 }
 
 /// Two slices, one behind the other.

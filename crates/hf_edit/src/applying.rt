@@ -1,13 +1,14 @@
 //! The making of an edit.
 
-ghost use Rattle.std.specs.Prelude.{◌≡◌, ◌<◌, length, slice_get, IfOk, OnOk, OnErr, IfErr, IsTrue, None, Some};
+ghost use Rattle.std.specs.Prelude.{◌≡◌, ◌<◌, false, length, slice_get, IfOk, OnOk, OnErr, IfErr, IsTrue, None, Some};
 ghost use Rattle.hf_store.specs.Changes.{with_props};
 ghost use Rattle.hf_store.specs.Room.{props_at};
-ghost use Rattle.hf_store.specs.Store.{ids_of};
+ghost use Rattle.hf_store.specs.Store.{ItemStore, ids_of};
 ghost use Rattle.hf_store.specs.Valid.{Valid};
 ghost use Rattle.hf_edit.specs.Additions.{with_next};
-ghost use Rattle.hf_edit.specs.Edits.{named, step, why};
+ghost use Rattle.hf_edit.specs.Edits.{adds, named, reshapes, step, why};
 ghost use Rattle.hf_edit.specs.Faults.{IsFault, takes_memory};
+ghost use Rattle.hf_edit.specs.Left.{IsGoodEdit};
 ghost use Rattle.hf_edit.specs.Room.{why_not_added};
 ghost use Rattle.hf_edit.specs.Seen.{changed_by, draft_of, edit_of};
 
@@ -73,6 +74,58 @@ fn add<'a>(
     store.add(item)
 }
 
+/// The item that comes by an edit that adds one.
+fn draft_in<'b, 'a>(edit: &'b Edit<'a>) -> Draft<'b, 'a>
+    requires adds { IsTrue (adds (edit_of edit.now)) }
+    ensures added { (s : ItemStore) → with_next (draft_of result (named (edit_of edit.entry.now))) s ≡ step s (edit_of edit.entry.now) }
+    ensures free { (s : ItemStore) → why s (edit_of edit.entry.now) ≡ None → why_not_added (draft_of result (named (edit_of edit.entry.now))) s ≡ None }
+    ensures good { IsGoodEdit (edit_of edit.entry.now) }
+{
+    match edit {
+        Edit::AddExif { tiff, .. } => Draft::Exif(tiff),
+        Edit::AddXmp { text, .. } => Draft::Xmp(text),
+        Edit::Thumb { donor, .. } => Draft::Thumb(primary_of(donor)),
+        _ => unreachable!(),
+    }
+}
+
+/// The change that an edit makes of the properties of the item at a place, where it turns, mirrors or
+/// crops that and there is no reason against it.
+fn change_of<'a>(store: &Store<'a>, i: usize, edit: &Edit<'a>) -> Change<'a>
+    requires place { slice_get (ids_of store.now.items) i ≡ Some (named (edit_of edit.now)) }
+    requires valid { Valid store.now }
+    requires free { why store.now (edit_of edit.now) ≡ None }
+    requires reshapes { IsTrue (reshapes (edit_of edit.now)) }
+    ensures made { with_props i (changed_by result (props_at i store.now.items)) store.now ≡ step store.now (edit_of edit.now) }
+    ensures good { IsGoodEdit (edit_of edit.now) }
+{
+    let item = store.at(i);
+    match edit {
+        Edit::Rotate { quarters, .. } => rotation(item.props.as_slice(), *quarters),
+        Edit::Mirror { axis, .. } => mirroring(item.props.as_slice(), *axis),
+        Edit::Crop { x, y, w, h, .. } => cropping(item, *x, *y, *w, *h),
+        _ => unreachable!(),
+    }
+}
+
+/// Makes an edit that takes no memory, of the item at a place, against which there is no reason.
+fn make_in_place<'a>(store: &mut Store<'a>, i: usize, edit: &Edit<'a>)
+    requires place { slice_get (ids_of store.old.items) i ≡ Some (named (edit_of edit.now)) }
+    requires valid { Valid store.old }
+    requires free { why store.old (edit_of edit.now) ≡ None }
+    requires memory { takes_memory (edit_of edit.now) ≡ false }
+    ensures { store.new ≡ step store.old (edit_of edit.now) }
+{
+    match edit {
+        Edit::Remove { .. } => store.remove(i),
+        Edit::Primary { id } => store.set_primary(*id),
+        Edit::Hide { .. } => store.set_hidden(i, true),
+        Edit::Show { .. } => store.set_hidden(i, false),
+        Edit::Drop { kind, .. } => store.drop_props(i, *kind),
+        _ => unreachable!(),
+    }
+}
+
 /// Makes an edit of the item at a place, against which there is no reason. After `NoMemory` the store is
 /// as before.
 fn make<'a>(alloc: Global, store: &mut Store<'a>, i: usize, edit: &Edit<'a>) -> Result<(), NoMemory>
@@ -84,28 +137,22 @@ fn make<'a>(alloc: Global, store: &mut Store<'a>, i: usize, edit: &Edit<'a>) -> 
     ensures stays { OnErr result (store.new ≡ store.old) }
 {
     match edit {
-        Edit::Remove { .. } => store.remove(i),
-        Edit::AddExif { id, tiff } => add(alloc, store, *id, &Draft::Exif(tiff))?,
-        Edit::AddXmp { id, text } => add(alloc, store, *id, &Draft::Xmp(text))?,
-        Edit::Thumb { id, donor } => add(alloc, store, *id, &Draft::Thumb(primary_of(donor)))?,
-        Edit::Primary { id } => store.set_primary(*id),
-        Edit::Rotate { quarters, .. } => {
-            let change = rotation(store.at(i).props.as_slice(), *quarters);
-            reshape(store, i, &change)?;
+        Edit::AddExif { .. } | Edit::AddXmp { .. } | Edit::Thumb { .. } => {
+            add(alloc, store, edit.id(), &draft_in(edit))
         }
-        Edit::Mirror { axis, .. } => {
-            let change = mirroring(store.at(i).props.as_slice(), *axis);
-            reshape(store, i, &change)?;
+        Edit::Rotate { .. } | Edit::Mirror { .. } | Edit::Crop { .. } => {
+            let change = change_of(store, i, edit);
+            reshape(store, i, &change)
         }
-        Edit::Crop { x, y, w, h, .. } => {
-            let change = cropping(store.at(i), *x, *y, *w, *h);
-            reshape(store, i, &change)?;
+        Edit::Remove { .. }
+        | Edit::Primary { .. }
+        | Edit::Hide { .. }
+        | Edit::Show { .. }
+        | Edit::Drop { .. } => {
+            make_in_place(store, i, edit);
+            Ok(())
         }
-        Edit::Hide { .. } => store.set_hidden(i, true),
-        Edit::Show { .. } => store.set_hidden(i, false),
-        Edit::Drop { kind, .. } => store.drop_props(i, *kind),
     }
-    Ok(())
 }
 
 /// Makes an edit, where nothing speaks against it. `Refused` has the first reason against it, in the

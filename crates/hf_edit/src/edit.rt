@@ -92,7 +92,7 @@ impl Edit<'_> {
 }
 
 /// Why an edit is not made.
-#[derive(Clone, Copy, PartialEq, Eq)]
+#[derive(Clone, Copy)]
 pub enum EditFault {
     /// There is a reason against it.
     Refused(Reason),

@@ -4,6 +4,8 @@ ghost use Rattle.std.specs.Prelude.{◌≡◌, ◌≤◌, length, IfOk, Ok, Err}
 ghost use Rattle.std.specs.List.{AllByRecursion, flat_map};
 ghost use Rattle.hf_base.specs.Reading.{MatchOpen};
 ghost use Rattle.hf_base.specs.declared.limits.TheConstants as limits;
+ghost use Rattle.hf_head.specs.Ftyp.{brands_of};
+ghost use Rattle.hf_links.specs.Grpl.{groups_of};
 ghost use Rattle.hf_store.specs.Counts.{counts_of};
 ghost use Rattle.hf_store.specs.LimitFaults.{first_item, has_long_list as has_long_list_stated, limits_fault};
 ghost use Rattle.hf_store.specs.Seen.{item_of, items_of, stated};
@@ -20,6 +22,8 @@ use crate::store::{Parts, Store};
 use crate::tally::{Counts, count_groups, count_items};
 use hf_base::limits::{ITEMS, LINKS, META};
 use hf_base::{NoMemory, OpenFault, ReadRefusal, TryClone};
+use hf_head::Brands;
+use hf_links::Group;
 use hf_table::Uses;
 use std::alloc::Global;
 
@@ -101,6 +105,33 @@ fn count_within(alloc: Global, parts: &Parts<'_>) -> Result<Counts, OpenFault>
     Ok(counts)
 }
 
+/// The store of these items and groups, of which so much is counted. `NoMemory` comes where memory was
+/// refused.
+fn assemble<'a>(
+    alloc: Global,
+    brands: Brands<'a>,
+    primary: u32,
+    items: Vec<Item<'a>>,
+    groups: Vec<Group<'a>>,
+    counts: Counts,
+) -> Result<Store<'a>, NoMemory>
+    requires valid { Valid (record { brands = brands_of brands; primary = primary; items = items_of items.items; groups = groups_of groups.items }) }
+    requires counted { counts ≡ counts_of (record { brands = brands_of brands; primary = primary; items = items_of items.items; groups = groups_of groups.items }) }
+    ensures { IfOk result (λ store. store ≡ record { brands = brands_of brands.entry; primary = primary; items = items_of items.entry.items; groups = groups_of groups.entry.items }) }
+{
+    let uses = uses_of(alloc, &items)?;
+    let referred = referred_of(alloc, &items)?;
+    Ok(Store {
+        brands,
+        primary,
+        items,
+        groups,
+        uses,
+        counts,
+        referred,
+    })
+}
+
 impl<'a> Store<'a> {
     /// The same store again. `NoMemory` comes where memory was refused.
     pub fn try_clone(&self) -> Result<Store<'a>, NoMemory>
@@ -109,17 +140,7 @@ impl<'a> Store<'a> {
         let alloc = *self.items.allocator();
         let items = clone_of(alloc, &self.items)?;
         let groups = clone_of(alloc, &self.groups)?;
-        let uses = uses_of(alloc, &items)?;
-        let referred = referred_of(alloc, &items)?;
-        Ok(Store {
-            brands: self.brands,
-            primary: self.primary,
-            items,
-            groups,
-            uses,
-            counts: self.counts,
-            referred,
-        })
+        assemble(alloc, self.brands, self.primary, items, groups, self.counts)
     }
 
     /// The store of parts that are sound, which are spent in every case. It refuses more than `ITEMS`
@@ -134,16 +155,7 @@ impl<'a> Store<'a> {
         let counts = count_within(alloc, &parts)?;
         let items = parts.items.into_vec();
         let groups = parts.groups.into_vec();
-        let uses = uses_of(alloc, &items)?;
-        let referred = referred_of(alloc, &items)?;
-        Ok(Store {
-            brands: parts.brands,
-            primary: parts.primary,
-            items,
-            groups,
-            uses,
-            counts,
-            referred,
-        })
+        let store = assemble(alloc, parts.brands, parts.primary, items, groups, counts)?;
+        Ok(store)
     }
 }

@@ -1,19 +1,25 @@
 //! Changes of a store.
 
-ghost use Rattle.std.specs.Prelude.{◌≡◌, ◌<◌, length, map, not, OnOk, OnErr};
+ghost use Rattle.std.specs.Prelude.{◌≡◌, ◌<◌, ◌∷◌, ◌++◌, [], length, map, not, OnOk, OnErr};
 ghost use Rattle.std.specs.List.Sorted.{IsStrictlyIncreasing};
+ghost use Rattle.std.specs.Vec.{vec_capacity, vec_len};
+ghost use Rattle.hf_store.specs.Capped.{capped_counts};
 ghost use Rattle.hf_store.specs.Changes.{added, id_at, kept_only, removed, unnamed, with_hidden, with_primary, with_props, without_names, without_optionals, without_props};
+ghost use Rattle.hf_store.specs.Counts.{counts_of_item, plus};
+ghost use Rattle.hf_store.specs.Referred.{HasAll, targets_by};
 ghost use Rattle.hf_store.specs.Seen.{item_of, items_of};
 ghost use Rattle.hf_store.specs.Valid.{Valid};
-ghost use Rattle.hf_table.specs.Held.{is_among, is_of, is_optional_of};
+ghost use Rattle.hf_table.specs.Held.{is_among, is_of, is_optional_of, props_in};
+ghost use Rattle.hf_table.specs.Uses.{Gains, HasRoom};
 
 use crate::cutting::{Links, Stays, cut_groups, cut_items, cut_referred};
 use crate::item::{Item, Props};
+use crate::referring::Referred;
 use crate::store::Store;
 use crate::tally::{Counts, count_groups, count_item, count_items};
 use hf_base::{FourCc, Ids, NoMemory, Series};
 use hf_prop::Held;
-use hf_table::is_listed;
+use hf_table::{Uses, is_listed};
 use std::mem;
 
 /// Counts with those of references and groups put in.
@@ -37,6 +43,61 @@ fn unname(items: &mut Vec<Item<'_>>)
     for i in 0..items.len() {
         items[i].name = b"";
     }
+}
+
+/// Makes room behind the items of a store for one more, and has its references known and its properties
+/// held. After `NoMemory` no property has more holders than before.
+fn make_room<'a>(
+    items: &mut Vec<Item<'a>>,
+    referred: &mut Referred,
+    uses: &mut Uses<'a>,
+    item: &Item<'a>,
+) -> Result<(), NoMemory>
+    requires { HasRoom uses.old (props_in item.now.props) }
+    ensures items { items.new.items ≡ items.old.items }
+    ensures room { OnOk result (vec_len items.new < vec_capacity items.new) }
+    ensures kept { HasAll referred.new referred.old }
+    ensures known { OnOk result (HasAll referred.new (targets_by item.now.refs)) }
+    ensures gains { OnOk result (Gains uses.old (props_in item.now.props) uses.new) }
+    ensures same { OnErr result (Gains uses.old [] uses.new) }
+{
+    items.reserve(1)?;
+    referred.add_refs(item.refs.as_slice())?;
+    uses.add_all(item.props.as_slice())
+}
+
+/// Puts one more item behind those for which there is room, and counts it.
+fn put_behind<'a>(items: &mut Vec<Item<'a>>, counts: &mut Counts, item: Item<'a>)
+    requires { vec_len items.old < vec_capacity items.old }
+    ensures items { items.new.items ≡ items.old.items ++ item.entry ∷ [] }
+    ensures counts { counts.new ≡ capped_counts (plus counts.old (capped_counts (counts_of_item (item_of item.entry)))) }
+{
+    *counts = counts.plus(count_item(&item));
+    items.push(item).ok().unwrap();
+}
+
+/// Puts one more item behind those of a store, with what is kept of it. After `NoMemory` the items and the
+/// counts are as before, and no property has more holders.
+fn add_item<'a>(
+    items: &mut Vec<Item<'a>>,
+    referred: &mut Referred,
+    uses: &mut Uses<'a>,
+    counts: &mut Counts,
+    item: Item<'a>,
+) -> Result<(), NoMemory>
+    requires { HasRoom uses.old (props_in item.props) }
+    ensures items { OnOk result (items.new.items ≡ items.old.items ++ item.entry ∷ []) }
+    ensures known { OnOk result (HasAll referred.new (targets_by item.entry.refs)) }
+    ensures gains { OnOk result (Gains uses.old (props_in item.entry.props) uses.new) }
+    ensures counts { OnOk result (counts.new ≡ capped_counts (plus counts.old (capped_counts (counts_of_item (item_of item.entry))))) }
+    ensures kept { HasAll referred.new referred.old }
+    ensures unchanged { OnErr result (items.new.items ≡ items.old.items) }
+    ensures same { OnErr result (Gains uses.old [] uses.new) }
+    ensures uncounted { OnErr result (counts.new ≡ counts.old) }
+{
+    make_room(items, referred, uses, &item)?;
+    put_behind(items, counts, item);
+    Ok(())
 }
 
 impl<'a> Store<'a> {
@@ -127,12 +188,13 @@ impl<'a> Store<'a> {
         ensures unchanged { OnErr result (self.new ≡ self.old) }
     {
         let _bytes = self.uses.bytes();
-        self.items.reserve(1)?;
-        self.referred.add_refs(item.refs.as_slice())?;
-        self.uses.add_all(item.props.as_slice())?;
-        self.counts = self.counts.plus(count_item(&item));
-        self.items.push(item)?;
-        Ok(())
+        add_item(
+            &mut self.items,
+            &mut self.referred,
+            &mut self.uses,
+            &mut self.counts,
+            item,
+        )
     }
 
     /// Keeps the items whose ids are listed, which rise; the others go as by `remove`.

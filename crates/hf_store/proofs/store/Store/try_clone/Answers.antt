@@ -1,32 +1,32 @@
-use Rattle.std.proofs.Common.{◌≡◌, ◌≤◌, sym, ap, subst, ◌∙◌}
-use Rattle.std.specs.List.{flat_map}
-use Rattle.hf_base.specs.declared.limits.TheConstants as limits
+use Rattle.std.proofs.Common.{◌≡◌, sym, ap, subst, ◌∙◌}
+use Rattle.std.specs.Prelude.{IfOk}
 use Rattle.hf_links.specs.Grpl.{groups_of}
 use Rattle.hf_store.specs.Counts.{counts_of}
-use Rattle.hf_store.specs.Referred.{HasAll, all_targets}
 use Rattle.hf_store.specs.Seen.{items_of, store_of}
 use Rattle.hf_store.specs.Store.{ItemStore}
-use Rattle.hf_store.specs.Table.{props_of}
 use Rattle.hf_store.specs.Valid.{Valid}
-use Rattle.hf_table.specs.Table.{table, size_sum}
-use Rattle.hf_table.specs.Uses.{Tallies}
-use Rattle.hf_store.proofs.Few.{light_props}
 use Rattle.hf_store.proofs.store.Store.try_clone.Goals as goal
 
-pub uses_of-requires-clause-light : goal.uses_of-requires-clause-light
-uses_of-requires-clause-light c =
-    subst (λ is. size_sum (table (flat_map props_of (items_of is))) ≤ limits.META) (sym (c.deref-3.ensures.value ∙ c.in_ok-items.ensures ∙ c.deref.ensures.value)) (light_props (store_of c.self.inside) c.self.invariant.valid)
-
-pub invariant_of-result : goal.invariant_of-result
-invariant_of-result c =
-    let s = store_of c.self.inside in
-    let t : ItemStore = record s { items = items_of c.in_ok-items.items.items; groups = groups_of c.in_ok-groups.groups.items } in
+-- the copies are what they were made of
+same : (c : goal.After-assemble) → record (store_of c.self.inside) { items = items_of c.in_ok-items.items.items; groups = groups_of c.in_ok-groups.groups.items } ≡ store_of c.self.inside
+same c =
     let items = c.in_ok-items.ensures ∙ c.deref.ensures.value in
     let groups = c.in_ok-groups.ensures ∙ c.deref-2.ensures.value in
-    let same : t ≡ s = λ j. record s { items = items_of (items j); groups = groups_of (groups j) } in
-    record {
-      valid = subst Valid (sym same) c.self.invariant.valid;
-      tallies = subst (λ is. Tallies c.in_ok-uses.uses (flat_map props_of (items_of is))) c.deref-3.ensures.value c.in_ok-uses.ensures;
-      counted = c.self.invariant.counted ∙ ap counts_of (sym same);
-      referred = subst (λ is. HasAll c.in_ok-referred.referred (all_targets (items_of is))) c.deref-4.ensures.value c.in_ok-referred.ensures;
-    }
+    λ j. record (store_of c.self.inside) { items = items_of (items j); groups = groups_of (groups j) }
+
+pub assemble-requires-clause-valid : goal.assemble-requires-clause-valid
+assemble-requires-clause-valid c =
+    let items = c.in_ok-items.ensures ∙ c.deref.ensures.value in
+    let groups = c.in_ok-groups.ensures ∙ c.deref-2.ensures.value in
+    let same : record (store_of c.self.inside) { items = items_of c.in_ok-items.items.items; groups = groups_of c.in_ok-groups.groups.items } ≡ store_of c.self.inside = λ j. record (store_of c.self.inside) { items = items_of (items j); groups = groups_of (groups j) } in
+    subst Valid (sym same) c.self.invariant.valid
+
+pub assemble-requires-clause-counted : goal.assemble-requires-clause-counted
+assemble-requires-clause-counted c =
+    let items = c.in_ok-items.ensures ∙ c.deref.ensures.value in
+    let groups = c.in_ok-groups.ensures ∙ c.deref-2.ensures.value in
+    let same : record (store_of c.self.inside) { items = items_of c.in_ok-items.items.items; groups = groups_of c.in_ok-groups.groups.items } ≡ store_of c.self.inside = λ j. record (store_of c.self.inside) { items = items_of (items j); groups = groups_of (groups j) } in
+    c.self.invariant.counted ∙ ap counts_of (sym same)
+
+pub returns : goal.returns
+returns c = subst (λ (s : ItemStore). IfOk c.assemble.result (λ store. store ≡ s)) (same c ∙ c.self.view_is) c.assemble.ensures
