@@ -14,7 +14,7 @@ use hf_base::{Extent, Ids, Loc, NoMemory, RefBox};
 use std::alloc::Global;
 
 /// An item, with the fields of its entry. Without an entry it is as one whose entry has no extent.
-#[derive(Debug, Drop)]
+#[derive(Drop)]
 pub struct Located<'a> {
     pub id: u32,
     pub method: u8,
