@@ -10,7 +10,7 @@ use hf_base::{Extent, Extents, OpenFault, ReadRefusal, front16};
 use std::alloc::Global;
 
 /// The fields of an entry in front of its extents.
-#[derive(Clone, Copy, Debug)]
+#[derive(Clone, Copy)]
 pub struct Fields {
     /// The id of the item.
     pub id: u32,
