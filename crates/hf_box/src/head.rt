@@ -7,7 +7,7 @@ ghost use Rattle.hf_box.specs.Head.{box, box_head};
 use hf_base::{FourCc, be_put};
 
 /// The header of a box.
-#[derive(Clone, Copy, Debug)]
+#[derive(Clone, Copy)]
 pub struct Head {
     /// The header in the first `len` bytes; those behind it mean nothing.
     pub bytes: [u8; 16],

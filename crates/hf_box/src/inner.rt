@@ -15,7 +15,7 @@ use std::marker::Model;
 
 /// The boxes inside another one that are still to be taken, of which none has a framing fault. They stay
 /// in the bytes, and nothing is kept of them beside these.
-#[derive(Debug, Drop)]
+#[derive(Drop)]
 pub struct InnerBoxes<'a> {
     bytes: &'a [u8],
     at: u64,

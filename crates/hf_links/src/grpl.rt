@@ -26,7 +26,7 @@ use hf_desk::{Desk, Page, Put, WriteFault};
 use std::alloc::Global;
 
 /// A group of items (EntityToGroupBox of ISO/IEC 14496-12).
-#[derive(Debug, Drop)]
+#[derive(Drop)]
 pub struct Group<'a> {
     /// The type of the group.
     pub kind: FourCc,
