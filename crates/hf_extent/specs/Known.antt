@@ -6,7 +6,8 @@ use Rattle.hf_base.specs.Located.{Located}
 use Rattle.hf_base.specs.Reading.{◌>>=◌}
 use Rattle.hf_base.specs.declared.fault.ReadRefusal.{ReadRefusal}
 use Rattle.hf_base.specs.Counts.{size_of}
-use Rattle.hf_base.specs.LocationFaults.{out_of_item_fault, too_many_bytes_fault}
+use Rattle.hf_base.specs.LocationFaults.{bad_index_fault, loc_cycle_fault, out_of_file_fault, out_of_idat_fault}
+use Rattle.hf_base.specs.LocationFaults.{too_scattered_fault, out_of_item_fault, too_many_bytes_fault}
 use Rattle.hf_base.specs.BytesOf.{by_method, piece_of, joined_pieces}
 use Rattle.hf_extent.specs.Places.{place_of}
 
@@ -42,3 +43,18 @@ abbrev pub sizes_fault : List ℕ → Option (List ℕ) → List Located → Res
 sizes_fault F idat items = do
   in_items ← out_of_item_fault F idat items
   too_many_bytes_fault F idat items
+
+-- the last five faults
+abbrev pub extents_fault : List ℕ → Option (List ℕ) → List Located → Result (Unit {0}) ReadRefusal
+extents_fault F idat items = do
+  in_file ← out_of_file_fault F items
+  in_idat ← out_of_idat_fault idat items
+  few ← too_scattered_fault items
+  sizes_fault F idat items
+
+-- the last seven faults: all but those that an entry shows by itself
+abbrev pub linked_fault : List ℕ → Option (List ℕ) → List Located → Result (Unit {0}) ReadRefusal
+linked_fault F idat items = do
+  named ← bad_index_fault items
+  ending ← loc_cycle_fault items
+  extents_fault F idat items

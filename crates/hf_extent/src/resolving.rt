@@ -1,14 +1,16 @@
 //! The bytes of items, or the one fault of their places.
 
 ghost use Rattle.std.specs.Option.{option_copied};
-ghost use Rattle.std.specs.Prelude.{◌≡◌, ◌<◌, Ok};
+ghost use Rattle.std.specs.Prelude.{◌≡◌, ◌<◌, ℕ, List, Ok, Err, MatchResult, length};
 ghost use Rattle.hf_base.specs.Located.{located_items};
-ghost use Rattle.hf_base.specs.LocationFaults.{locations_fault};
+ghost use Rattle.hf_base.specs.LocationFaults.{bad_index_fault, loc_cycle_fault, locations_fault};
 ghost use Rattle.hf_base.specs.Members.{Rises};
-ghost use Rattle.hf_base.specs.Reading.{MatchOpen};
+ghost use Rattle.hf_base.specs.Reading.{Gives, MatchOpen};
 ghost use Rattle.hf_extent.specs.Bodies.{AreBytesOf};
-ghost use Rattle.hf_extent.specs.Places.{AreAt, HaveDistinctIds};
+ghost use Rattle.hf_extent.specs.Known.{linked_fault, extents_fault};
+ghost use Rattle.hf_extent.specs.Places.{AreAt, HaveDistinctIds, links_from};
 ghost use Rattle.hf_extent.specs.Seen.{items_seen};
+ghost use Rattle.hf_order.specs.Order.{IsOrder};
 
 use crate::bodies::bodies;
 use crate::chains::{loc_cycle, order};
@@ -17,12 +19,46 @@ use crate::items::{Located, items};
 use crate::leaves::check_leaves;
 use crate::sizes::check_sizes;
 use crate::sources::bad_index;
-use hf_base::{Loc, OpenFault, RefBox};
+use hf_base::{Loc, OpenFault, ReadRefusal, RefBox};
 use hf_pieces::Pieces;
 use std::alloc::Global;
 
-/// The bytes of each of these items, or the first fault of their places.
+/// Refuses the first fault that an entry shows by itself.
 #[tactic(auto, unfolding(hf_base::specs::LocationFaults::locations_fault))]
+fn check_entries(idat: Option<&[u8]>, items: &[Located<'_>]) -> Result<(), ReadRefusal>
+    ensures { (F : List ℕ) → let items = items_seen items.now in MatchResult result
+        (λ _. locations_fault F (option_copied idat.entry) items ≡ linked_fault F (option_copied idat.entry) items)
+        (λ why. locations_fault F (option_copied idat.entry) items ≡ Err why) }
+{
+    checks::external(items)?;
+    checks::bad_method(items)?;
+    checks::zero_length(items)?;
+    checks::no_idat(idat, items)
+}
+
+/// Refuses an extent that passes the end of its source, and items that take too many pieces or bytes.
+fn check_extents(
+    alloc: Global,
+    file: &[u8],
+    idat: Option<&[u8]>,
+    ids: &[u32],
+    items: &[Located<'_>],
+    order: &[usize],
+) -> Result<(), OpenFault>
+    requires rising { Rises ◌<◌ ids.now }
+    requires known { AreAt ids.now (items_seen items.now) }
+    requires ordered { IsOrder (length ids.now) (links_from ids.now 0 (items_seen items.now)) order.now }
+    requires named { bad_index_fault (items_seen items.now) ≡ Ok tt }
+    requires ending { loc_cycle_fault (items_seen items.now) ≡ Ok tt }
+    ensures { Gives (λ x. x) result (extents_fault file.now (option_copied idat.entry) (items_seen items.now)) }
+{
+    checks::out_of_file(file, items)?;
+    checks::out_of_idat(idat, items)?;
+    check_leaves(alloc, ids, items, order)?;
+    check_sizes(alloc, file, idat, ids, items, order)
+}
+
+/// The bytes of each of these items, or the first fault of their places.
 fn resolve_items<'a>(
     alloc: Global,
     file: &'a [u8],
@@ -36,17 +72,11 @@ fn resolve_items<'a>(
         (λ bodies. (locations_fault file.now (option_copied idat.entry) items ≡ Ok tt) × AreBytesOf file.now (option_copied idat.entry) items bodies.items)
         (λ why. locations_fault file.now (option_copied idat.entry) items ≡ Err why) }
 {
-    checks::external(items)?;
-    checks::bad_method(items)?;
-    checks::zero_length(items)?;
-    checks::no_idat(idat, items)?;
+    check_entries(idat, items)?;
     bad_index(ids, items)?;
     let order = order(alloc, ids, items)?;
     loc_cycle(ids, items, &order)?;
-    checks::out_of_file(file, items)?;
-    checks::out_of_idat(idat, items)?;
-    check_leaves(alloc, ids, items, &order.nodes)?;
-    check_sizes(alloc, file, idat, ids, items, &order.nodes)?;
+    check_extents(alloc, file, idat, ids, items, &order.nodes)?;
     Ok(bodies(alloc, file, idat, ids, items, &order.nodes)?)
 }
 

@@ -95,17 +95,22 @@ info_with flags id kind strings = record {
   uri = if is_kind kind URI then text_at (behind_text strings) else [];
 }
 
+-- the fields behind the version and these flags, with an id of this width
+abbrev pub fields_at : ℕ → ℕ → ℕ → List ℕ → Result Info ReadRefusal
+fields_at at flags width bytes = do
+  id ← front width (BadRecord INFE at) bytes
+  protection ← front 2 (BadRecord INFE at) id.1
+  kind ← front_four (BadRecord INFE at) protection.1
+  some ← refuse_if (id.0 == 0) (ZeroId at)
+  open_bytes ← refuse_if (not (protection.0 == 0)) (Protected id.0)
+  Ok (info_with flags id.0 kind.0 kind.1)
+
 -- what a body says of its item, or its fault, in a box at this place
 unfoldable pub infe_at : ℕ → List ℕ → Result Info ReadRefusal
 infe_at at body = do
   version ← front_full (BadRecord INFE at) body
   width ← id_width_at 2 (BadVersion INFE at) version.0.0
-  id ← front width (BadRecord INFE at) version.1
-  protection ← front 2 (BadRecord INFE at) id.1
-  kind ← front_four (BadRecord INFE at) protection.1
-  some ← refuse_if (id.0 == 0) (ZeroId at)
-  open_bytes ← refuse_if (not (protection.0 == 0)) (Protected id.0)
-  Ok (info_with version.0.1 id.0 kind.0 kind.1)
+  fields_at at version.0.1 width version.1
 
 -- ---- the body as it is written
 

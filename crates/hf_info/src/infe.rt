@@ -1,11 +1,11 @@
 //! `infe`: ItemInfoEntry of ISO/IEC 14496-12.
 
-ghost use Rattle.std.specs.Prelude.{◌≡◌, [], if◌then◌else◌, map};
+ghost use Rattle.std.specs.Prelude.{◌≡◌, ◌⊎◌, [], if◌then◌else◌, map};
 ghost use Rattle.hf_base.specs.Reading.{Reads};
 ghost use Rattle.hf_base.specs.declared.kinds.TheConstants.{MIME as mime, URI as uri};
 ghost use Rattle.hf_box.specs.Walk.{is_kind};
 ghost use Rattle.hf_info.specs.Texts.{text_at, behind_text};
-ghost use Rattle.hf_info.specs.Infe.{info_of, info_with as stated_with, infe_at};
+ghost use Rattle.hf_info.specs.Infe.{info_of, info_with as stated_with, fields_at, infe_at};
 
 use crate::text::front_text;
 use hf_base::kinds::{INFE, MIME, URI};
@@ -71,15 +71,13 @@ fn info_with<'a>(flags: u32, id: u32, kind: FourCc, strings: &'a [u8]) -> Info<'
     }
 }
 
-/// The entry in a body, with the place of its box.
-#[tactic(auto, unfolding(crate::specs::Infe::infe_at))]
-pub(crate) fn infe_in<'a>(body: &'a [u8], at: u64) -> Result<Info<'a>, ReadRefusal>
-    ensures { Reads info_of result (infe_at at body.now) }
+/// The entry with these flags, in the bytes behind them, with an id of `width` bytes and the place of its box.
+fn fields_in<'a>(at: u64, flags: u32, width: u8, bytes: &'a [u8]) -> Result<Info<'a>, ReadRefusal>
+    requires { (width ≡ 2) ⊎ (width ≡ 4) }
+    ensures { Reads info_of result (fields_at at flags width bytes.now) }
 {
     let short = ReadRefusal::BadRecord { kind: INFE, at };
-    let (version, flags, rest) = front_version(body, short)?;
-    let width = id_width(2, version, ReadRefusal::BadVersion { kind: INFE, at })?;
-    let (id, rest) = front_id(width, rest, short)?;
+    let (id, rest) = front_id(width, bytes, short)?;
     let (protection, rest) = front16(rest, short)?;
     let (kind, strings) = front_kind(rest, short)?;
     if id == 0 {
@@ -89,4 +87,15 @@ pub(crate) fn infe_in<'a>(body: &'a [u8], at: u64) -> Result<Info<'a>, ReadRefus
         return Err(ReadRefusal::Protected { id });
     }
     Ok(info_with(flags, id, kind, strings))
+}
+
+/// The entry in a body, with the place of its box.
+#[tactic(auto, unfolding(crate::specs::Infe::infe_at))]
+pub(crate) fn infe_in<'a>(body: &'a [u8], at: u64) -> Result<Info<'a>, ReadRefusal>
+    ensures { Reads info_of result (infe_at at body.now) }
+{
+    let short = ReadRefusal::BadRecord { kind: INFE, at };
+    let (version, flags, rest) = front_version(body, short)?;
+    let width = id_width(2, version, ReadRefusal::BadVersion { kind: INFE, at })?;
+    fields_in(at, flags, width, rest)
 }

@@ -1,6 +1,6 @@
 //! How many bytes the fields of `iloc` take (ItemLocationBox of ISO/IEC 14496-12).
 
-ghost use Rattle.std.specs.Prelude.{◌≡◌, ◌==◌, if◌then◌else◌};
+ghost use Rattle.std.specs.Prelude.{◌≡◌, ◌==◌, if◌then◌else◌, true, false, MatchResult};
 ghost use Rattle.hf_base.specs.Reading.{Reads, front};
 ghost use Rattle.hf_box.specs.Written.{id_width};
 ghost use Rattle.hf_loc.specs.Iloc.{is_width, widths_at};
@@ -9,7 +9,7 @@ ghost use Rattle.hf_loc.specs.Views.{width_of, widths_in};
 use hf_base::{ReadRefusal, front16, front32, front64};
 
 /// The bytes of an offset, a length, a base or an index.
-#[derive(Clone, Copy, PartialEq, Eq)]
+#[derive(Clone, Copy)]
 pub enum Width {
     /// The field is left out.
     Zero,
@@ -51,7 +51,7 @@ pub struct Widths {
 
 /// The width of so many bytes; `bad` where there is none.
 fn width_by(len: u8, bad: ReadRefusal) -> Result<Width, ReadRefusal>
-    ensures { Reads width_of result (if is_width len then Ok len else Err bad) }
+    ensures { MatchResult result (λ width. (is_width len ≡ true) × (width_of width ≡ len)) (λ why. (is_width len ≡ false) × (why ≡ bad)) }
 {
     match len {
         0 => Ok(Width::Zero),
@@ -63,7 +63,7 @@ fn width_by(len: u8, bad: ReadRefusal) -> Result<Width, ReadRefusal>
 
 /// The width of an index, which version 0 has not and does not state.
 fn index_by(version: u8, len: u8, bad: ReadRefusal) -> Result<Width, ReadRefusal>
-    ensures { Reads width_of result (if is_width (if version == 0 then 0 else len) then Ok (if version == 0 then 0 else len) else Err bad) }
+    ensures { let stated = if version == 0 then 0 else len in MatchResult result (λ width. (is_width stated ≡ true) × (width_of width ≡ stated)) (λ why. (is_width stated ≡ false) × (why ≡ bad)) }
 {
     if version == 0 {
         return Ok(Width::Zero);
