@@ -1,17 +1,20 @@
 //! The items of a store, and its other parts.
 
 ghost use Rattle.std.specs.Option.{option_copied};
-ghost use Rattle.std.specs.Prelude.{◌≡◌, map, IfOk, Ok, Err};
+ghost use Rattle.std.specs.Prelude.{◌≡◌, ◌<◌, map, IfOk, Ok, Err};
 ghost use Rattle.hf_base.specs.LocationFaults.{locations_fault};
+ghost use Rattle.hf_base.specs.Members.{Rises};
 ghost use Rattle.hf_base.specs.Reading.{MatchOpen};
 ghost use Rattle.hf_head.specs.Ftyp.{brands_of};
 ghost use Rattle.hf_info.specs.Infe.{info_of, infos_of};
+ghost use Rattle.hf_links.specs.Grpl.{groups_of};
 ghost use Rattle.hf_pieces.specs.Bytes.{joined};
 ghost use Rattle.hf_store.specs.Seen.{item_of as item_seen, items_of, stated};
 ghost use Rattle.hf_read.specs.Items.{item_with, items_with};
-ghost use Rattle.hf_read.specs.Reading.{store_at};
+ghost use Rattle.hf_read.specs.Kept.{kept_groups as groups_stated, kept_props as props_stated, kept_refs as refs_stated};
+ghost use Rattle.hf_read.specs.Reading.{item_at, store_at};
 ghost use Rattle.hf_read.specs.Seen.{AreTablesOf, AreReadable};
-ghost use Rattle.hf_read.specs.Tables.{Tables, items_in};
+ghost use Rattle.hf_read.specs.Tables.{Tables, infos_by_id, items_in};
 
 use crate::groups::kept_groups;
 use crate::meta::MetaTables;
@@ -22,7 +25,7 @@ use hf_extent::resolve;
 use hf_head::Brands;
 use hf_info::Info;
 use hf_pieces::Pieces;
-use hf_store::{Item, ItemList, Parts, Props, Refs};
+use hf_store::{GroupList, Item, ItemList, Parts, Props, Refs};
 use std::alloc::Global;
 
 /// The item of an entry, with these bytes, properties and references.
@@ -60,6 +63,48 @@ fn items<'a>(
     Ok(items)
 }
 
+/// An item for each entry, with these bytes, and with its properties and references.
+fn described_items<'a>(
+    alloc: Global,
+    tables: &MetaTables<'a>,
+    bodies: Vec<Pieces<'a>>,
+) -> Result<ItemList<'a>, NoMemory>
+    requires { Rises ◌<◌ tables.now.ids.items }
+    ensures { IfOk result (λ items. items_of items ≡ items_with (infos_of tables.now.infos.items) (map joined bodies.entry.items)
+        (map (props_stated tables.now.iprp) tables.now.ids.items) (map (refs_stated tables.now.ids.items tables.now.links.items) tables.now.ids.items)) }
+{
+    let props = kept_props(alloc, &tables.ids, &tables.iprp)?;
+    let refs = kept_refs(alloc, &tables.ids, &tables.links)?;
+    items(alloc, &tables.infos, bodies, props, refs)
+}
+
+/// An item for each entry, with the bytes at its places, its properties and its references. Otherwise
+/// the first fault of the places of the items.
+fn placed_items<'a>(
+    alloc: Global,
+    file: &'a [u8],
+    idat: Option<&'a [u8]>,
+    tables: &MetaTables<'a>,
+) -> Result<ItemList<'a>, OpenFault>
+    requires { AreReadable tables.now }
+    ensures { (t : Tables) → AreTablesOf tables.now t → MatchOpen result
+        (λ items. (locations_fault file.now (option_copied idat.entry) (items_in t) ≡ Ok tt)
+        × (items_of items ≡ map (item_at file.now (option_copied idat.entry) t) (infos_by_id t.infos)))
+        (λ why. locations_fault file.now (option_copied idat.entry) (items_in t) ≡ Err why) }
+{
+    let bodies = resolve(alloc, file, idat, &tables.ids, &tables.locs, &tables.links)?;
+    Ok(described_items(alloc, tables, bodies)?)
+}
+
+/// The groups of these tables that are kept.
+fn groups_in_tables<'a>(alloc: Global, tables: MetaTables<'a>) -> Result<GroupList<'a>, NoMemory>
+    requires { AreReadable tables }
+    ensures { IfOk result (λ kept. groups_of kept ≡ groups_stated tables.entry.ids.items (groups_of tables.entry.groups.items)) }
+{
+    let MetaTables { ids, groups, .. } = tables;
+    kept_groups(alloc, &ids, groups)
+}
+
 /// The parts of the store of these tables: an item for each entry, with the bytes at its places, its
 /// properties and its references, and the groups that are kept. Otherwise the first fault of the places
 /// of the items, in the order of `resolve`. `idat` is the body of that box, where there is one. Payloads
@@ -81,21 +126,12 @@ pub fn store_parts<'a>(
         × (stated p ≡ store_at file.now (option_copied idat.entry) (brands_of brands.entry) primary t))
         (λ why. locations_fault file.now (option_copied idat.entry) (items_in t) ≡ Err why) }
 {
-    let MetaTables {
-        infos,
-        ids,
-        locs,
-        links,
-        iprp,
-        groups,
-    } = tables;
-    let bodies = resolve(alloc, file, idat, &ids, &locs, &links)?;
-    let props = kept_props(alloc, &ids, &iprp)?;
-    let refs = kept_refs(alloc, &ids, &links)?;
+    let items = placed_items(alloc, file, idat, &tables)?;
+    let groups = groups_in_tables(alloc, tables)?;
     Ok(Parts {
         brands,
         primary,
-        items: items(alloc, &infos, bodies, props, refs)?,
-        groups: kept_groups(alloc, &ids, groups)?,
+        items,
+        groups,
     })
 }
