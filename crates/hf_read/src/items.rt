@@ -1,12 +1,13 @@
 //! The items of a store, and its other parts.
 
 ghost use Rattle.std.specs.Option.{option_copied};
-ghost use Rattle.std.specs.Prelude.{◌≡◌, ◌<◌, map, IfOk, Ok, Err};
+ghost use Rattle.std.specs.Prelude.{◌≡◌, ◌<◌, ◌++◌, ◌∷◌, List, map, option_to_list, IfOk, Ok, Err};
+ghost use Rattle.std.specs.Vec.Iter.{into_iter_items};
 ghost use Rattle.hf_base.specs.LocationFaults.{locations_fault};
 ghost use Rattle.hf_base.specs.Members.{Rises};
 ghost use Rattle.hf_base.specs.Reading.{MatchOpen};
 ghost use Rattle.hf_head.specs.Ftyp.{brands_of};
-ghost use Rattle.hf_info.specs.Infe.{info_of, infos_of};
+ghost use Rattle.hf_info.specs.Infe.{Info as Stated, info_of, infos_of};
 ghost use Rattle.hf_links.specs.Grpl.{groups_of};
 ghost use Rattle.hf_pieces.specs.Bytes.{joined};
 ghost use Rattle.hf_store.specs.Seen.{item_of as item_seen, items_of, stated};
@@ -27,6 +28,7 @@ use hf_info::Info;
 use hf_pieces::Pieces;
 use hf_store::{GroupList, Item, ItemList, Parts, Props, Refs};
 use std::alloc::Global;
+use std::vec::IntoIter;
 
 /// The item of an entry, with these bytes, properties and references.
 fn item<'a>(info: &Info<'a>, body: Pieces<'a>, props: Props<'a>, refs: Refs) -> Item<'a>
@@ -46,6 +48,22 @@ fn item<'a>(info: &Info<'a>, body: Pieces<'a>, props: Props<'a>, refs: Refs) -> 
     }
 }
 
+/// The item of an entry, with the next bytes, properties and references, while all of them last.
+fn next_item<'a>(
+    info: &Info<'a>,
+    bodies: &mut IntoIter<Pieces<'a>, Global>,
+    props: &mut IntoIter<Props<'a>, Global>,
+    refs: &mut IntoIter<Refs, Global>,
+) -> Option<Item<'a>>
+    ensures { (infos : List Stated) → items_with (info_of info.now ∷ infos) (map joined (into_iter_items bodies.old)) (into_iter_items props.old) (into_iter_items refs.old)
+        ≡ items_of (option_to_list result) ++ items_with infos (map joined (into_iter_items bodies.new)) (into_iter_items props.new) (into_iter_items refs.new) }
+{
+    let body = bodies.next()?;
+    let props = props.next()?;
+    let refs = refs.next()?;
+    Some(item(info, body, props, refs))
+}
+
 /// An item for each entry, with its bytes, properties and references.
 fn items<'a>(
     alloc: Global,
@@ -57,8 +75,13 @@ fn items<'a>(
     ensures { IfOk result (λ items. items_of items ≡ items_with (infos_of infos.now) (map joined bodies.entry.items) props.entry.items refs.items) }
 {
     let mut items = ItemList::with_capacity(alloc, infos.len())?;
-    for (((info, body), props), refs) in infos.iter().zip(bodies).zip(props).zip(refs) {
-        items.push(item(info, body, props, refs))?;
+    let mut bodies = bodies.into_iter();
+    let mut props = props.into_iter();
+    let mut refs = refs.into_iter();
+    for info in infos {
+        if let Some(item) = next_item(info, &mut bodies, &mut props, &mut refs) {
+            items.push(item)?;
+        }
     }
     Ok(items)
 }
