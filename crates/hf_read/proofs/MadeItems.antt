@@ -117,21 +117,23 @@ located_is t ids locs links i l r =
 
 pub items_is : (F : List ℕ) (idat : Option (List ℕ)) (t : Tables) (m : MetaTables) (bodies : List (List (List ℕ))) (items : List Item)
     → AreTablesOf m t → AreBytesOf F idat (items_in t) bodies
-    → items ≡ items_with (infos_of m.infos.items) (map joined bodies) (map (kept_props m.iprp) m.ids.items) (map (kept_refs m.ids.items m.links.items) m.ids.items)
-    → items ≡ map (item_at F idat t) (infos_by_id t.infos)
+    → items ≡ items_with (infos_of m.infos.items) (map joined bodies) (map (kept_props m.iprp) m.ids.items)
+    (map (kept_refs m.ids.items m.links.items) m.ids.items) → items ≡ map (item_at F idat t) (infos_by_id t.infos)
 items_is F idat t m bodies items are bytes i =
     let ids = item_ids t.infos in
-    let props : map (kept_props m.iprp) m.ids.items ≡ map (kept_props t.iprp) ids =
+    let held = map (kept_props m.iprp) m.ids.items in
+    let lists = map (kept_refs m.ids.items m.links.items) m.ids.items in
+    let props : held ≡ map (kept_props t.iprp) ids =
     ap (λ (v : Iprp). map (kept_props v) m.ids.items) are.iprp ∙ ap (map (kept_props t.iprp)) are.ids in
-    let refs : map (kept_refs m.ids.items m.links.items) m.ids.items ≡ map (kept_refs ids t.links) ids =
+    let refs : lists ≡ map (kept_refs ids t.links) ids =
     ap (λ (l : List RefBox). map (kept_refs m.ids.items l) m.ids.items) are.links ∙ ap (λ (k : List ℕ). map (kept_refs k t.links) k) are.ids in
-    i ∙ ap (λ (l : List Stated). items_with l (map joined bodies) (map (kept_props m.iprp) m.ids.items) (map (kept_refs m.ids.items m.links.items) m.ids.items)) are.infos
-    ∙ ap (λ (l : List (List Held)). items_with (infos_by_id t.infos) (map joined bodies) l (map (kept_refs m.ids.items m.links.items) m.ids.items)) props
+    i ∙ ap (λ (l : List Stated). items_with l (map joined bodies) held lists) are.infos
+    ∙ ap (λ (l : List (List Held)). items_with (infos_by_id t.infos) (map joined bodies) l lists) props
     ∙ ap (λ (l : List (List RefList)). items_with (infos_by_id t.infos) (map joined bodies) (map (kept_props t.iprp) ids) l) refs
     ∙ made_items F idat t bodies bytes
 
-pub store_is : (F : List ℕ) (idat : Option (List ℕ)) (brands : Brands) (primary : ℕ) (t : Tables) (m : MetaTables) (items : List Item) (groups : List Group)
-    → AreTablesOf m t → items ≡ map (item_at F idat t) (infos_by_id t.infos) → groups ≡ kept_groups m.ids.items (groups_of m.groups.items)
+pub store_is : (F : List ℕ) (idat : Option (List ℕ)) (brands : Brands) (primary : ℕ) (t : Tables) (m : MetaTables) (items : List Item)
+    (groups : List Group) → AreTablesOf m t → items ≡ map (item_at F idat t) (infos_by_id t.infos) → groups ≡ kept_groups m.ids.items (groups_of m.groups.items)
     → record { brands = brands; primary = primary; items = items; groups = groups } ≡ store_at F idat brands primary t
 unfolding store_at
 store_is F idat brands primary t m items groups are i g =

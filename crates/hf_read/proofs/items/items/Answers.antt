@@ -13,11 +13,13 @@ use Rattle.hf_read.proofs.items.items.Goals as goal
 pub loop-info-preserved : goal.loop-info-preserved
 loop-info-preserved c =
     let l = c.loop-info in
-    let items = λ (infos : List Info). items_with (infos_of infos) (map joined (into_iter_items l.bodies)) (into_iter_items l.props) (into_iter_items l.refs) in
+    let bodies = map joined (into_iter_items l.bodies) in
+    let items = λ (infos : List Info). items_with (infos_of infos) bodies (into_iter_items l.props) (into_iter_items l.refs) in
     let grown : c.match-next_item.items ≡ l.items ++ option_to_list c.next_item.result =
     elim c.match-next_item.branch [
       | in-Some+in_ok-push w ↦ w.items-is ∙ w.in_ok-push.ensures.pushed ∙ sym (ap (λ o. l.items ++ option_to_list o) w.in-Some.is)
       | in_default w ↦ w.items-is ∙ sym (ap (λ o. l.items ++ option_to_list o) w.in_default.is ∙ append-nil l.items)
     ] in
     let first = c.next_item.ensures (infos_of (drop (l.info-index + 1) c.args.infos.now)) in
-    item_more l.items c.next_item.result c.match-next_item.items _ _ _ grown (ap items (drop_more c.args.infos.now l.info-index _ c.loop-info-test.true) ∙ first) l.invariant
+    let rest = ap items (drop_more c.args.infos.now l.info-index _ c.loop-info-test.true) in
+    item_more l.items c.next_item.result c.match-next_item.items _ _ _ grown (rest ∙ first) l.invariant

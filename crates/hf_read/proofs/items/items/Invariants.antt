@@ -8,5 +8,6 @@ use Rattle.hf_read.proofs.items.items.Given as goal
 
 abbrev pub invariant-loop-info : goal.invariant-loop-info
 invariant-loop-info l =
-    items_of l.items ++ items_with (infos_of (drop l.info-index l.infos)) (map joined (into_iter_items l.bodies)) (into_iter_items l.props) (into_iter_items l.refs)
+    let bodies = map joined (into_iter_items l.bodies) in
+    items_of l.items ++ items_with (infos_of (drop l.info-index l.infos)) bodies (into_iter_items l.props) (into_iter_items l.refs)
     ≡ items_with (infos_of l.infos) (map joined l.fn.bodies.items) l.fn.props.items l.fn.refs.items
