@@ -4,6 +4,7 @@ pub mod DenotesLaws
 pub mod DerivedLaws
 pub mod Filters
 pub mod FirstFaults
+pub mod Gathered
 pub mod ItemLaws
 pub mod KeptGroups
 pub mod KeptProps

@@ -1,19 +1,25 @@
-use Rattle.std.proofs.Common.{ap, sym, ◌∙◌, map, rules}
-use Rattle.std.proofs.lemmas.Simd.{map-map}
-use Rattle.std.proofs.lemmas.Iterator.{YieldsList-from_slice, YieldsList-from_zip}
-use Rattle.std.proofs.lemmas.Iterator.Adapters.{YieldsList-from_vec}
-use Rattle.std.proofs.lemmas.Iterator.Consumers.{YieldsList-end}
-use Rattle.hf_read.proofs.MadeItems.{made, made_all}
+use Rattle.std.proofs.Common.{◌≡◌, ◌++◌, ◌+◌, List, ap, map, drop, sym, ◌∙◌}
+use Rattle.std.specs.Prelude.{option_to_list}
+use Rattle.std.specs.Vec.Iter.{into_iter_items}
+use Rattle.std.proofs.lemmas.List.{append-nil, drop_more}
+use Rattle.hf_info.specs.Infe.{infos_of}
+use Rattle.hf_info.specs.declared.infe.Info.{Info}
+use Rattle.hf_pieces.specs.Bytes.{joined}
+use Rattle.hf_read.specs.Items.{items_with}
+use Rattle.hf_read.proofs.MadeItems.{item_more}
+use Rattle.hf_read.proofs.items.items.Goals.{in-Some+in_ok-push, in_default}
 use Rattle.hf_read.proofs.items.items.Goals as goal
 
-pub returns : goal.returns
-returns c =
-    let infos = YieldsList-from_slice c.args.infos.now (search rules) in
-    let bodies = YieldsList-from_vec c.args.bodies.items (search rules) (search rules) in
-    let props = YieldsList-from_vec c.args.props.items (search rules) (search rules) in
-    let refs = YieldsList-from_vec c.args.refs.items (search rules) (search rules) in
-    let all = YieldsList-from_zip (YieldsList-from_zip (YieldsList-from_zip infos bodies) props) refs in
-    let end =
-    YieldsList-end all c.loop-info.yielded c.loop-info.info-iterator c.loop-info.yielded_by c.next.result c.next.new.self c.in-None.is c.next.ensures.steps in
-    c.loop-info.invariant ∙ sym (map-map made (λ q. (((q.0.0.0.now, q.0.0.1), q.0.1), q.1)) c.loop-info.yielded) ∙ ap (map made) end.0
-    ∙ made_all c.args.infos.now c.args.bodies.items c.args.props.items c.args.refs.items
+pub loop-info-preserved : goal.loop-info-preserved
+loop-info-preserved c =
+    let l = c.loop-info in
+    let bodies = map joined (into_iter_items l.bodies) in
+    let items = λ (infos : List Info). items_with (infos_of infos) bodies (into_iter_items l.props) (into_iter_items l.refs) in
+    let grown : c.match-next_item.items ≡ l.items ++ option_to_list c.next_item.result =
+    elim c.match-next_item.branch [
+      | in-Some+in_ok-push w ↦ w.items-is ∙ w.in_ok-push.ensures.pushed ∙ sym (ap (λ o. l.items ++ option_to_list o) w.in-Some.is)
+      | in_default w ↦ w.items-is ∙ sym (ap (λ o. l.items ++ option_to_list o) w.in_default.is ∙ append-nil l.items)
+    ] in
+    let first = c.next_item.ensures (infos_of (drop (l.info-index + 1) c.args.infos.now)) in
+    let rest = ap items (drop_more c.args.infos.now l.info-index _ c.loop-info-test.true) in
+    item_more l.items c.next_item.result c.match-next_item.items _ _ _ grown (rest ∙ first) l.invariant

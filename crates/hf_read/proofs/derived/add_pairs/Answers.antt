@@ -1,0 +1,9 @@
+use Rattle.std.proofs.Common.{ℕ}
+use Rattle.hf_read.proofs.Gathered.{value_more}
+use Rattle.hf_read.proofs.derived.add_pairs.Goals as goal
+
+pub loop-to-preserved : goal.loop-to-preserved
+loop-to-preserved c =
+    let l = c.loop-to in
+    let more = value_more (λ (to : ℕ). (c.args.id, to)) c.args.inputs.now l.to-index 0 c.args.pairs.now.items l.pairs.items c.push.new.self.items in
+    more c.loop-to-test.true l.invariant c.in_ok-push.ensures.items
