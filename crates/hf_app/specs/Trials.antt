@@ -45,5 +45,5 @@ pub record IsTrial (seed n : ℕ) (s : ItemStore) (plan : Planned) (numbers : Tr
   pub planned : IsPlan s plan
   pub counted : AreNumbers seed n numbers
 
-abbrev pub Plans : ℕ → ℕ → Result (ItemStore × Planned × TrialNumbers) NoMemory → Type 0
-Plans seed n result = IfOk result (λ made. IsTrial seed n made.0 made.1 made.2)
+abbrev pub Plans : ℕ → ℕ → ItemStore → Result (Planned × TrialNumbers) NoMemory → Type 0
+Plans seed n s result = IfOk result (λ made. IsTrial seed n s made.0 made.1)

@@ -3,7 +3,6 @@
 ghost use Rattle.std.specs.Prelude.{◌≡◌, ◌≤◌, ℕ, false, IfOk};
 ghost use Rattle.hf_plan.specs.Plan.{IsPlan};
 ghost use Rattle.hf_text.specs.Words.{Trial};
-ghost use Rattle.hf_trial.specs.Bytes.{trial_bytes};
 ghost use Rattle.hf_trial.specs.Trial.{trial_store_of};
 ghost use Rattle.hf_app.specs.Answers.{Ends, IsQuiet, HasCause, IsSteady, Stays};
 ghost use Rattle.hf_app.specs.Trials.{AreNumbers, Plans};
@@ -18,6 +17,35 @@ use hf_text::{Outcome, TrialNumbers, say_trial};
 use hf_trial::{trial_buffer, trial_store};
 use std::alloc::Global;
 
+/// The numbers of the trial with this store and its plan. `kept` is a copy of the store, and is
+/// redacted.
+fn counted(
+    alloc: Global,
+    seed: u32,
+    n: u32,
+    store: &Store<'_>,
+    whole: &Plan,
+    kept: &mut Store<'_>,
+) -> Result<TrialNumbers, NoMemory>
+    requires store { store.now ≡ trial_store_of seed n }
+    requires plan { IsPlan store.now whole.now }
+    requires copy { kept.old ≡ store.now }
+    ensures { IfOk result (λ numbers. AreNumbers seed n numbers) }
+{
+    store.valid();
+    redact(alloc, kept, false)?;
+    kept.valid();
+    let plan = plan(alloc, kept)?;
+    Ok(TrialNumbers {
+        seed,
+        n,
+        items: store.len() as u64,
+        bytes: whole.total(),
+        kept_items: kept.len() as u64,
+        kept_bytes: plan.total(),
+    })
+}
+
 /// The numbers of the trial with this store and its plan.
 fn numbers(
     alloc: Global,
@@ -30,37 +58,53 @@ fn numbers(
     requires plan { IsPlan store.now whole.now }
     ensures { IfOk result (λ numbers. AreNumbers seed n numbers) }
 {
-    store.valid();
     let mut kept = store.try_clone()?;
-    redact(alloc, &mut kept, false)?;
-    kept.valid();
-    let plan = plan(alloc, &kept)?;
-    Ok(TrialNumbers {
-        seed,
-        n,
-        items: store.len() as u64,
-        bytes: whole.total(),
-        kept_items: kept.len() as u64,
-        kept_bytes: plan.total(),
-    })
+    counted(alloc, seed, n, store, whole, &mut kept)
 }
 
-/// The store of a trial, whose bytes lie in the buffer, its plan and its numbers.
-fn planned<'a>(
+/// The plan of the trial with this store, and its numbers.
+fn planned(
     alloc: Global,
     seed: u32,
     n: u32,
-    buffer: &'a [u8],
-) -> Result<(Store<'a>, Plan, TrialNumbers), NoMemory>
-    requires some { 1 ≤ n }
-    requires few { n ≤ 256 }
-    requires bytes { buffer.now ≡ trial_bytes seed n }
-    ensures { Plans seed n result }
+    store: &Store<'_>,
+) -> Result<(Plan, TrialNumbers), NoMemory>
+    requires { store.now ≡ trial_store_of seed n }
+    ensures { Plans seed n store.now result }
 {
-    let store = trial_store(alloc, seed, n, buffer)?;
-    let plan = plan(alloc, &store)?;
-    let numbers = numbers(alloc, seed, n, &store, &plan)?;
-    Ok((store, plan, numbers))
+    let plan = plan(alloc, store)?;
+    let numbers = numbers(alloc, seed, n, store, &plan)?;
+    Ok((plan, numbers))
+}
+
+/// Makes the file `out`, the canonical file of the trial with this store, and then says its numbers.
+fn make_file<D: Desk>(
+    alloc: Global,
+    seed: u32,
+    n: u32,
+    store: &Store<'_>,
+    out: &str,
+    desk: &mut D,
+) -> Outcome
+    requires creating { (D.outside desk.old).creating ≡ false }
+    requires store { store.now ≡ trial_store_of seed n }
+    ensures stays { Stays (D.outside desk.old) (D.outside desk.new) }
+    ensures cause { HasCause result (D.outside desk.old) (D.outside desk.new) }
+    ensures quiet { IsQuiet result (D.outside desk.old) (D.outside desk.new) }
+    ensures no_usage { (at : ℕ) → result ≡ Outcome.Usage at → ⊥ }
+    ensures ends { Ends (Trial seed n out.now) result (D.outside desk.old) (D.outside desk.new) }
+    ensures steady { IsSteady (Trial seed n out.now) result (D.outside desk.old) }
+{
+    let Ok((plan, numbers)) = planned(alloc, seed, n, store) else {
+        return Outcome::NoMemory;
+    };
+    let Ok(()) = make_canonical(store, &plan, out, desk) else {
+        return Outcome::WriteFault;
+    };
+    match say_trial(&numbers, desk) {
+        Ok(()) => Outcome::Done,
+        Err(_) => Outcome::WriteFault,
+    }
 }
 
 /// Makes the file `out`, the canonical file of the trial of `seed` and `n`, and then says how many
@@ -80,14 +124,8 @@ pub fn make_trial<D: Desk>(alloc: Global, seed: u32, n: u32, out: &str, desk: &m
     let Ok(buffer) = trial_buffer(alloc, seed, n) else {
         return Outcome::NoMemory;
     };
-    let Ok((store, plan, numbers)) = planned(alloc, seed, n, &buffer) else {
+    let Ok(store) = trial_store(alloc, seed, n, &buffer) else {
         return Outcome::NoMemory;
     };
-    let Ok(()) = make_canonical(&store, &plan, out, desk) else {
-        return Outcome::WriteFault;
-    };
-    match say_trial(&numbers, desk) {
-        Ok(()) => Outcome::Done,
-        Err(_) => Outcome::WriteFault,
-    }
+    make_file(alloc, seed, n, &store, out, desk)
 }

@@ -1,6 +1,6 @@
 use Rattle.std.proofs.Common.{rules}
 use Rattle.hf_app.proofs.Trials.{counted}
-use Rattle.hf_app.proofs.trial.numbers.Goals as goal
+use Rattle.hf_app.proofs.trial.counted.Goals as goal
 
 pub returns : goal.returns
 returns c =
