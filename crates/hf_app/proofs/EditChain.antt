@@ -19,7 +19,7 @@ use Rattle.hf_text.specs.declared.edits.EditWord.{EditWord as PlacedEdit}
 use Rattle.hf_text.specs.declared.outcome.Outcome.TheVariants.{Unfit, Refused}
 use Rattle.hf_app.specs.Answers.{Answers}
 use Rattle.hf_app.specs.Due.{IsDueOfEdits, IsDueOfFile, answered, made}
-use Rattle.hf_app.specs.Edits.{AreAccepted, AreMeant, Makes, Means, IsMeant, Steps, Stops, stepped, unless, with_files}
+use Rattle.hf_app.specs.Edits.{AreAccepted, AreMeant, Makes, MakesMeant, Means, IsMeant, Steps, Stops, stepped, unless, with_files}
 use Rattle.hf_app.specs.Opening.{IsOpened, IsRefusal}
 use Rattle.hf_app.specs.Sources.{Sourced}
 use Rattle.hf_app.specs.Stops.{outcome_of_stop}
@@ -91,6 +91,14 @@ pub unmeant : (n : ℕ) (s new : ItemStore) (w : EditWord) (bytes : List ℕ) (s
 unmeant n s new w bytes (stops.Unfit m fault) is = is
 unmeant n s new w bytes (stops.Refused m reason) is = absurd is
 unmeant n s new w bytes stops.NoMemory is = tt
+
+-- an edit that is made as it is meant is made
+pub meant_makes : (n : ℕ) (old new : ItemStore) (w : EditWord) (bytes : List ℕ) (e : Edit) (result : Result (Unit {0}) Stop) → IsMeant w bytes e
+    → MakesMeant n old e result new → Makes n old w bytes result new
+meant_makes n old new w bytes e (Ok done) meant (free, is) = (e, meant, free, is)
+meant_makes n old new w bytes e (Err (stops.Unfit m fault)) meant never = absurd never
+meant_makes n old new w bytes e (Err (stops.Refused m reason)) meant (same, told) = (same, (e, meant, told))
+meant_makes n old new w bytes e (Err stops.NoMemory) meant is = tt
 
 -- ---- the loop over the edits
 

@@ -110,6 +110,13 @@ Makes n old word bytes (Err (Unfit m fault)) new = (m ≡ n) × IsUnfit word byt
 Makes n old word bytes (Err (Refused m reason)) new = (m ≡ n) × ((e : Edit) × IsMeant word bytes e × (why old e ≡ Some reason))
 Makes n old word bytes (Err NoMemory) new = Unit {0}
 
+-- this edit, which has this number, was made, or why it was not
+abbrev pub MakesMeant : ℕ → ItemStore → Edit → Result (Unit {0}) Stop → ItemStore → Type 0
+MakesMeant n old e (Ok done) new = (why old e ≡ None) × (new ≡ step old e)
+MakesMeant n old e (Err (Unfit m fault)) new = ⊥
+MakesMeant n old e (Err (Refused m reason)) new = (m ≡ n) × (why old e ≡ Some reason)
+MakesMeant n old e (Err NoMemory) new = Unit {0}
+
 -- edits were made in order, or why the first one that was not was not
 abbrev pub Steps : ItemStore → List Sourced → Result (Unit {0}) Stop → ItemStore → Type 0
 Steps old edits (Ok done) new = AreAccepted old edits new

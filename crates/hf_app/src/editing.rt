@@ -3,8 +3,9 @@
 ghost use Rattle.std.specs.Prelude.{◌≡◌, ◌≤◌, List, ℕ, length};
 ghost use Rattle.std.specs.List.{All};
 ghost use Rattle.hf_base.specs.declared.limits.TheConstants.{FILE, EDITS as MOST};
+ghost use Rattle.hf_edit.specs.Seen.{edit_of as edit_seen};
 ghost use Rattle.hf_text.specs.Commands.{edit_of};
-ghost use Rattle.hf_app.specs.Edits.{Edits, Makes, Means, Steps, with_files};
+ghost use Rattle.hf_app.specs.Edits.{Edits, Makes, MakesMeant, Means, Steps, with_files};
 
 use crate::opening::opened;
 use crate::stopping::Stop;
@@ -42,6 +43,22 @@ fn edit_meant<'a>(
     }
 }
 
+/// Makes this edit, which has this number, unless there is a reason against it.
+fn apply_meant<'a>(
+    alloc: Global,
+    store: &mut Store<'a>,
+    number: u32,
+    edit: &Edit<'a>,
+) -> Result<(), Stop>
+    ensures { MakesMeant number store.old (edit_seen edit.now) result store.new }
+{
+    match hf_edit::apply(alloc, store, edit) {
+        Ok(()) => Ok(()),
+        Err(EditFault::Refused(why)) => Err(Stop::Refused { edit: number, why }),
+        Err(EditFault::NoMemory) => Err(Stop::NoMemory),
+    }
+}
+
 /// Makes the edit with this number, unless its file has a fault or there is a reason against it. A
 /// fault of its file is told before any reason.
 fn apply<'a>(
@@ -55,11 +72,7 @@ fn apply<'a>(
     ensures { (words : List (List ℕ)) → Makes number store.old (edit_of words word.now) file.now result store.new }
 {
     let edit = edit_meant(alloc, number, word, file)?;
-    match hf_edit::apply(alloc, store, &edit) {
-        Ok(()) => Ok(()),
-        Err(EditFault::Refused(why)) => Err(Stop::Refused { edit: number, why }),
-        Err(EditFault::NoMemory) => Err(Stop::NoMemory),
-    }
+    apply_meant(alloc, store, number, &edit)
 }
 
 /// Makes the edits in order, each with the bytes of its file, up to the first that is not made.

@@ -1,4 +1,5 @@
 use Rattle.std.proofs.lemmas.Result.{err_from_is_err_and}
+use Rattle.hf_app.proofs.Checking.{told_of_store}
 use Rattle.hf_app.proofs.check.is_canonical.Goals as goal
 
 pub returns-in_err-store : goal.returns-in_err-store
@@ -7,4 +8,4 @@ returns-in_err-store c =
     rw (p.1, p.2) c.in_err-store.ensures
 
 pub returns : goal.returns
-returns c = (c.in_ok-store.store, c.in_ok-store.ensures, c.same.ensures)
+returns c = told_of_store c.args.file.now c.in_ok-store.store c.in_ok-store.ensures _ c.is_file_of.ensures
