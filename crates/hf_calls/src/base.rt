@@ -1,24 +1,41 @@
 //! Lists that are copied.
 
-use hf_base::{Extent, Extents, Ids, TryClone};
+use hf_base::{Extent, Extents, Ids, NoMemory, TryClone};
+use std::alloc::Global;
 use std::test::Fail;
 
-#[test]
-fn lists_are_copied(rt: HostRuntime) -> Result<(), Fail> {
-    let alloc = rt.alloc();
+fn two_ids(alloc: Global) -> Result<Ids, NoMemory> {
     let mut ids = Ids::new(alloc);
-    let mut extents = Extents::new(alloc);
-    for id in [7, u32::MAX] {
-        ids.push(id)?;
-        extents.push(Extent {
-            index: 1,
-            offset: u64::MAX,
-            length: id as u64,
-        })?;
+    ids.push(7)?;
+    ids.push(u32::MAX)?;
+    Ok(ids)
+}
+
+fn extent(length: u64) -> Extent {
+    Extent {
+        index: 1,
+        offset: u64::MAX,
+        length,
     }
-    assert_eq!(rt; ids.try_clone()?.as_slice(), [7, u32::MAX].as_slice());
-    let copy = extents.try_clone()?;
-    assert_eq!(rt; copy.len(), 2);
-    assert_eq!(rt; copy.as_slice(), extents.as_slice());
+}
+
+fn two_extents(alloc: Global) -> Result<Extents, NoMemory> {
+    let mut extents = Extents::new(alloc);
+    extents.push(extent(7))?;
+    extents.push(extent(u64::MAX))?;
+    Ok(extents)
+}
+
+#[test]
+fn ids_are_copied(rt: HostRuntime) -> Result<(), Fail> {
+    let copy = two_ids(rt.alloc())?.try_clone()?;
+    assert!(rt; copy.as_slice() == [7, u32::MAX].as_slice());
+    Ok(())
+}
+
+#[test]
+fn extents_are_copied(rt: HostRuntime) -> Result<(), Fail> {
+    let copy = two_extents(rt.alloc())?.try_clone()?;
+    assert!(rt; copy.as_slice() == [extent(7), extent(u64::MAX)].as_slice());
     Ok(())
 }

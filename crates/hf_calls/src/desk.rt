@@ -1,6 +1,9 @@
 //! Large files that are read whole, and what a page gathers.
 
-use hf_desk::{Desk, MemoryDesk, PAGE, Page, Put, Say, WriteFault, read_all, say_all};
+ghost use Rattle.std.specs.Prelude.{◌≡◌, false};
+ghost use Rattle.hf_desk.specs.Memory.{memory_outside};
+
+use hf_desk::{Desk, MemoryDesk, PAGE, Page, Put, Say, read_all, say_all};
 use std::alloc::Global;
 use std::test::Fail;
 
@@ -27,40 +30,58 @@ fn files_of_several_pieces_are_read_whole(rt: HostRuntime) -> Result<(), Fail> {
     Ok(())
 }
 
+/// Makes a file of pieces that are short, as long as a page, empty, and longer than one.
+fn put_pieces(full: &[u8], large: &[u8], desk: &mut MemoryDesk) -> Result<(), Fail>
+    requires { (memory_outside desk.old).creating ≡ false }
+{
+    desk.create("new")?;
+    let mut page: Page<Put> = Page::new();
+    page.give(&[1], desk)?;
+    page.give(full, desk)?;
+    page.give(&[], desk)?;
+    page.give(large, desk)?;
+    page.give(&[4, 4], desk)?;
+    page.end(desk)?;
+    Ok(())
+}
+
+/// All bytes of these pieces.
+fn all_bytes(alloc: Global, full: &[u8], large: &[u8]) -> Result<Vec<u8>, Fail> {
+    let mut all = vec![in alloc; 1u8]?;
+    for piece in [full, large, &[4, 4]] {
+        all.extend_from_slice(piece)?;
+    }
+    Ok(all)
+}
+
 #[test]
 fn pieces_are_put_in_their_order(rt: HostRuntime) -> Result<(), Fail> {
-    let alloc = rt.alloc();
-    let mut desk = MemoryDesk::new(alloc);
-    desk.take_at_most(5000);
     let full = [2u8; PAGE];
     let large = [3u8; PAGE + 1];
-    assert!(rt; desk.create("new").is_ok());
-    let mut page: Page<Put> = Page::new();
-    page.give(&[1], &mut desk)?;
-    page.give(&full, &mut desk)?;
-    page.give(&[], &mut desk)?;
-    page.give(&large, &mut desk)?;
-    page.give(&[4, 4], &mut desk)?;
-    page.end(&mut desk)?;
-    let mut all = vec![in alloc; 1u8]?;
-    all.extend_from_slice(&full)?;
-    all.extend_from_slice(&large)?;
-    all.extend_from_slice(&[4, 4])?;
-    assert_eq!(rt; desk.made(), Some(all.as_slice()));
+    let all = all_bytes(rt.alloc(), &full, &large)?;
+    let mut desk = MemoryDesk::new(rt.alloc());
+    desk.take_at_most(5000);
+    put_pieces(&full, &large, &mut desk)?;
+    assert!(rt; desk.made() == Some(all.as_slice()));
+    Ok(())
+}
+
+/// Says a thousand pieces of 20 bytes.
+fn say_pieces(desk: &mut MemoryDesk) -> Result<(), Fail> {
+    let mut page: Page<Say> = Page::new();
+    for _ in 0..1000u32 {
+        page.give(&[7; 20], desk)?;
+    }
+    page.end(desk)?;
     Ok(())
 }
 
 #[test]
 fn a_thousand_pieces_are_said_in_three_calls(rt: HostRuntime) -> Result<(), Fail> {
-    let alloc = rt.alloc();
-    let mut desk = MemoryDesk::new(alloc);
+    let mut desk = MemoryDesk::new(rt.alloc());
     desk.fail(4)?;
-    let mut page: Page<Say> = Page::new();
-    for _ in 0..1000u32 {
-        page.give(&[7; 20], &mut desk)?;
-    }
-    page.end(&mut desk)?;
+    say_pieces(&mut desk)?;
     assert_eq!(rt; desk.said().len(), 20_000);
-    assert_eq!(rt; say_all(&mut desk, &[7]), Err(WriteFault));
+    assert!(rt; say_all(&mut desk, &[7]).is_err());
     Ok(())
 }

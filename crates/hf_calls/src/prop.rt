@@ -3,10 +3,10 @@
 ghost use Rattle.std.specs.Prelude.{◌≡◌, ◌<◌, ◌^◌};
 ghost use Rattle.hf_box.specs.Boxes.{box_of, end_of};
 
-use hf_base::TryClone;
 use hf_base::kinds::IPRP;
+use hf_base::{NoMemory, TryClone};
 use hf_box::BoxView;
-use hf_prop::{Iprp, Pick, mirror, read_iprp};
+use hf_prop::{AssocList, Iprp, Pick, PropList, mirror, read_iprp};
 use std::test::Fail;
 
 /// The body of an `iprp` with two properties and two `ipma`: one has ids of two bytes and associations
@@ -31,17 +31,25 @@ fn pick(essential: bool, index: u16) -> Pick {
     Pick { essential, index }
 }
 
+/// Whether a copy of the properties has both of them.
+fn are_copied(props: &PropList) -> Result<bool, NoMemory> {
+    let same = props.try_clone()?;
+    Ok(same.len() == 2 && same.get(1).copy() == mirror(0))
+}
+
+/// Whether a copy of the associations has both of them.
+fn assocs_are_copied(assocs: &AssocList) -> Result<bool, NoMemory> {
+    let same = assocs.try_clone()?;
+    let narrow = [pick(true, 1), pick(false, 2)];
+    Ok(same.len() == 2 && same.get(0).picks.as_slice() == narrow.as_slice())
+}
+
 #[test]
 fn lists_are_copied(rt: HostRuntime) -> Result<(), Fail> {
     let Iprp { props, assocs } = read_iprp(rt.alloc(), &view(BOTH))
         .ok()
         .ok_or("the box is read")?;
-    let same = props.try_clone()?;
-    assert_eq!(rt; same.len(), 2);
-    assert!(rt; same.get(1).copy() == mirror(0));
-    let copied = assocs.try_clone()?;
-    assert_eq!(rt; copied.len(), 2);
-    let narrow = [pick(true, 1), pick(false, 2)];
-    assert!(rt; copied.get(0).picks.as_slice() == narrow.as_slice());
+    assert!(rt; are_copied(&props)?);
+    assert!(rt; assocs_are_copied(&assocs)?);
     Ok(())
 }
