@@ -1,6 +1,6 @@
 //! Files of many bytes: items that share them, over a desk that counts what is made.
 
-use crate::making::{put_box, words_of};
+use crate::making::{put_box, put_info, words_of};
 use crate::parts::{HDLR, ONE, PITM};
 use hf_app::run;
 use hf_desk::CountingDesk;
@@ -20,29 +20,45 @@ fn shared(alloc: Global) -> Result<Vec<u8>, Fail> {
     Ok(file)
 }
 
-/// Puts a `meta` behind it: so many items over all of these bytes, but the last over the first `last` of
-/// them.
-fn put_items(file: &mut Vec<u8>, alloc: Global, count: u16, last: u32) -> Result<(), Fail> {
-    let mut infos = Vec::from_slice(alloc, b"\0\0\0\0")?;
+/// Puts the tables of so many items over all of these bytes, but the last over the first `last` of them:
+/// the bodies of `iinf` and of `iloc`.
+fn put_tables(
+    infos: &mut Vec<u8>,
+    places: &mut Vec<u8>,
+    count: u16,
+    last: u32,
+) -> Result<(), Fail> {
+    infos.extend_from_slice(b"\0\0\0\0")?;
     infos.extend_from_slice(&count.to_be_bytes())?;
-    let mut places = Vec::from_slice(alloc, b"\x01\0\0\0\x44\0")?;
+    places.extend_from_slice(b"\x01\0\0\0\x44\0")?;
     places.extend_from_slice(&count.to_be_bytes())?;
     for id in 1..count.saturating_add(1) {
         let size = if id == count { last } else { RANGE };
-        put_box(
-            &mut infos,
-            b"infe",
-            &[b"\x02\0\0\0", &id.to_be_bytes(), b"\0\0hvc1\0"],
-        )?;
+        put_info(infos, id)?;
         places.extend_from_slice(&id.to_be_bytes())?;
         places.extend_from_slice(b"\0\0\0\0\0\x01\0\0\0\x20")?;
         places.extend_from_slice(&size.to_be_bytes())?;
     }
-    let mut boxes = Vec::from_slice(alloc, b"\0\0\0\0")?;
+    Ok(())
+}
+
+/// Puts the boxes of a `meta` with these tables.
+fn put_boxes(boxes: &mut Vec<u8>, infos: &[u8], places: &[u8]) -> Result<(), Fail> {
+    boxes.extend_from_slice(b"\0\0\0\0")?;
     boxes.extend_from_slice(HDLR)?;
     boxes.extend_from_slice(PITM)?;
-    put_box(&mut boxes, b"iinf", &[&infos])?;
-    put_box(&mut boxes, b"iloc", &[&places])?;
+    put_box(boxes, b"iinf", &[infos])?;
+    put_box(boxes, b"iloc", &[places])
+}
+
+/// Puts a `meta` behind a file: so many items over all of these bytes, but the last over the first `last`
+/// of them.
+fn put_items(file: &mut Vec<u8>, alloc: Global, count: u16, last: u32) -> Result<(), Fail> {
+    let mut infos = Vec::new(alloc);
+    let mut places = Vec::new(alloc);
+    let mut boxes = Vec::new(alloc);
+    put_tables(&mut infos, &mut places, count, last)?;
+    put_boxes(&mut boxes, &infos, &places)?;
     put_box(file, b"meta", &[&boxes])
 }
 

@@ -37,6 +37,15 @@ pub fn put_box(file: &mut Vec<u8>, kind: &[u8; 4], pieces: &[&[u8]]) -> Result<(
     Ok(())
 }
 
+/// Puts the entry of an `iinf` for a shown item of type `hvc1` without a name.
+pub fn put_info(infos: &mut Vec<u8>, id: u16) -> Result<(), Fail> {
+    put_box(
+        infos,
+        b"infe",
+        &[b"\x02\0\0\0", &id.to_be_bytes(), b"\0\0hvc1\0"],
+    )
+}
+
 /// A file with these bytes in an `mdat` at 24, and a `meta` of these boxes behind it.
 pub fn file_of(alloc: Global, data: &[u8], boxes: &[&[u8]]) -> Result<Vec<u8>, Fail> {
     let mut inner = Vec::from_slice(alloc, b"\0\0\0\0")?;
