@@ -8,7 +8,7 @@ use Rattle.std.proofs.lemmas.List.{append-nil}
 use Rattle.std.proofs.lemmas.List.Sums.{sum_by-cons}
 use Rattle.hf_base.specs.declared.limits.TheConstants.{BODY}
 use Rattle.hf_base.specs.declared.fault.ReadRefusal.TheVariants.{TooManyBytes}
-use Rattle.std.proofs.lemmas.Option.{slice_get-map}
+use Rattle.std.proofs.lemmas.Option.{slice_get-map, slice_get_read}
 use Rattle.hf_pieces.specs.Bytes.{joined}
 use Rattle.hf_base.specs.declared.loc.Extent.{Extent}
 use Rattle.hf_base.specs.Located.{Located}
@@ -20,7 +20,7 @@ use Rattle.hf_base.specs.LocationFaults.{locations_fault, too_many_bytes_fault, 
 use Rattle.hf_base.proofs.LevelLaws.{map_same, bytes_are, in_item_same}
 use Rattle.hf_base.proofs.FaultLaws.{parts_fine}
 use Rattle.hf_base.proofs.BytesLaws.{bytes_there, not_endless}
-use Rattle.hf_extent.specs.Places.{AreAt, links_from}
+use Rattle.hf_extent.specs.Places.{AreAt, links_from, place_of}
 use Rattle.hf_order.specs.Order.{IsOrder}
 use Rattle.hf_extent.specs.Known.{piece_by, bytes_by}
 use Rattle.hf_extent.proofs.PlaceLaws.{length_at}
@@ -141,6 +141,13 @@ body_there F idat ids items order bodies named ordered fine i r less at knows =
     let b = bytes_there F idat items r fine is in
     let e : bytes_by F idat ids bodies r ≡ Some b.0 = body_known F idat ids items order bodies named ordered fine i r less at knows ∙ b.1 in
     (some_is _ b.0 e, room_is _ b.0 (2 ^ 62) e (omega (arith, b.2, small_item F idat items r fine is)))
+
+-- the bytes of the item that an extent names
+pub body_at : (ids : List ℕ) (bodies : List (List (List ℕ))) (r : Located) (e : Extent) (k : ℕ) (made : List (List ℕ)) → place_of ids r e ≡ Some k
+    → k < length bodies → made ≡ get_or bodies k made → option_and_then (slice_get (map joined bodies)) (place_of ids r e) ≡ Some (joined made)
+body_at ids bodies r e k made place less is =
+    ap (option_and_then (slice_get (map joined bodies))) place ∙ slice_get-map joined bodies k
+    ∙ ap (option_map joined) (slice_get_read bodies (length bodies) k made refl less is)
 
 -- ---- one item more in the list
 

@@ -1,12 +1,15 @@
 -- The links of pairs, gathered from left to right.
-use Rattle.std.proofs.Common.{◌≡◌, ℕ, zero, suc, ◌+◌, ◌<◌, List, [], ◌∷◌, ◌++◌, length, take, get_or, refl, sym, ap, ◌∙◌, arith, Option, Some, None, append_assoc}
+use Rattle.std.proofs.Common.{◌≡◌, ℕ, zero, suc, ◌+◌, ◌<◌, ◌≤◌, true, false, List, [], ◌∷◌, ◌++◌, length, take, get_or, refl, sym, ap, ◌∙◌, arith, Option, Some, None, append_assoc}
 use Rattle.std.specs.List.{filter_map, cons_option}
-use Rattle.std.specs.Option.{option_to_list}
-use Rattle.std.proofs.lemmas.List.{append-nil}
+use Rattle.std.specs.Option.{option_map, option_to_list}
+use Rattle.std.specs.Prelude.{◌==◌}
+use Rattle.std.proofs.lemmas.Bool.Decides.{nat_tests}
+use Rattle.std.proofs.lemmas.List.{append-nil, take_all}
 use Rattle.hf_base.specs.declared.loc.Extent.{Extent}
 use Rattle.hf_extent.specs.declared.items.Located.{Located}
 use Rattle.hf_extent.specs.Seen.{item_seen, items_seen}
-use Rattle.hf_extent.specs.Places.{item_links, links_from}
+use Rattle.hf_base.specs.Located.{Located as Stated}
+use Rattle.hf_extent.specs.Places.{place_of, item_links, links_from}
 
 go : {B : Type 0} (o : Option B) (bs : List B) → cons_option o bs ≡ option_to_list o ++ bs
 go None bs = refl
@@ -53,3 +56,17 @@ links_step ids items i x pairs next so_far less is e =
     let z : 0 + i ≡ i = omega arith in
     e ∙ ap (λ l. l ++ item_links ids i (item_seen x)) so_far
     ∙ ap (λ n. links_from ids 0 (items_seen (take i items)) ++ item_links ids n (item_seen x)) (sym z) ∙ sym (links_more ids 0 items i x less is)
+
+-- ---- the links of one item
+
+pub no_links : (ids : List ℕ) (i : ℕ) (r : Stated) → (r.method ≡ 2 → ⊥) → item_links ids i r ≡ []
+no_links ids i r other = let t : (r.method == 2) ≡ false = grind (arith, nat_tests) in rw t refl
+
+pub links_of_extents : (ids : List ℕ) (i n : ℕ) (r : Stated) (front pairs : List (ℕ × ℕ))
+    → pairs ≡ front ++ filter_map (λ (e : Extent). option_map (λ (k : ℕ). (i, k)) (place_of ids r e)) (take n r.extents)
+    → length r.extents ≤ n → r.method ≡ 2 → pairs ≡ front ++ item_links ids i r
+links_of_extents ids i n r front pairs so_far all two =
+    let t : (r.method == 2) ≡ true = grind (arith, nat_tests) in
+    let links : item_links ids i r ≡ filter_map (λ (e : Extent). option_map (λ (k : ℕ). (i, k)) (place_of ids r e)) r.extents = rw t refl in
+    so_far ∙ ap (λ (es : List Extent). front ++ filter_map (λ (e : Extent). option_map (λ (k : ℕ). (i, k)) (place_of ids r e)) es) (take_all n r.extents all)
+    ∙ ap (λ (l : List (ℕ × ℕ)). front ++ l) (sym links)

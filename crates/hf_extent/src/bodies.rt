@@ -1,13 +1,13 @@
 //! The bytes of items where they lie, each found once, in an order of the items.
 
-ghost use Rattle.std.specs.Option.{option_copied, ForSome};
-ghost use Rattle.std.specs.Prelude.{◌≡◌, ◌<◌, ◌+◌, ◌++◌, ◌≤◌, ◌^◌, IfOk, OnOk, Ok, Some, IsSome, IfSome, length, map};
+ghost use Rattle.std.specs.Option.{option_and_then, option_copied, ForSome};
+ghost use Rattle.std.specs.Prelude.{◌≡◌, ◌<◌, ◌+◌, ◌++◌, ◌≤◌, ◌^◌, IfOk, OnOk, Ok, Some, IsSome, IfSome, length, map, slice_get};
 ghost use Rattle.hf_base.specs.BytesOf.{piece_of};
 ghost use Rattle.hf_base.specs.LocationFaults.{locations_fault};
 ghost use Rattle.hf_base.specs.Members.{Rises};
 ghost use Rattle.hf_extent.specs.Bodies.{AreBytesOf};
 ghost use Rattle.hf_extent.specs.Known.{piece_by, bytes_by};
-ghost use Rattle.hf_extent.specs.Places.{AreAt, links_from};
+ghost use Rattle.hf_extent.specs.Places.{AreAt, links_from, place_of};
 ghost use Rattle.hf_extent.specs.Seen.{item_seen, items_seen};
 ghost use Rattle.hf_order.specs.Order.{IsOrder};
 ghost use Rattle.hf_pieces.specs.Bytes.{joined};
@@ -54,6 +54,26 @@ fn add_cut<'a>(
     pieces.append_cut(source, base + extent.offset, extent.length)
 }
 
+/// What an extent takes of the item that it names, behind other pieces.
+fn add_named<'a>(
+    pieces: &mut Pieces<'a>,
+    ids: &[u32],
+    item: &Located<'_>,
+    extent: &Extent,
+    bodies: &[Pieces<'a>],
+) -> Result<(), NoMemory>
+    requires rising { Rises ◌<◌ ids.now }
+    requires known { length bodies.now ≡ length ids.now }
+    requires there { IsSome (piece_of item.now.base extent.now (option_and_then (slice_get (map joined bodies.now)) (place_of ids.now (item_seen item.now) extent.now))) }
+    requires room { ForSome (piece_of item.now.base extent.now (option_and_then (slice_get (map joined bodies.now)) (place_of ids.now (item_seen item.now) extent.now))) (λ p. length (joined pieces.old) + length p ≤ 2 ^ 62) }
+    ensures { IfSome (piece_of item.now.base extent.now (option_and_then (slice_get (map joined bodies.now)) (place_of ids.now (item_seen item.now) extent.now))) (λ p. OnOk result (joined pieces.new ≡ joined pieces.old ++ p)) }
+{
+    match source(ids, item, extent) {
+        Some(at) => add_cut(pieces, &bodies[at], item.base, extent),
+        None => Ok(()),
+    }
+}
+
 /// What an extent takes of its source, behind other pieces.
 fn add_piece<'a>(
     pieces: &mut Pieces<'a>,
@@ -71,10 +91,7 @@ fn add_piece<'a>(
     ensures { IfSome (piece_by file.now (option_copied idat.entry) ids.now (map joined bodies.now) (item_seen item.now) extent.now) (λ p. OnOk result (joined pieces.new ≡ joined pieces.old ++ p)) }
 {
     if item.method == 2 {
-        return match source(ids, item, extent) {
-            Some(at) => add_cut(pieces, &bodies[at], item.base, extent),
-            None => Ok(()),
-        };
+        return add_named(pieces, ids, item, extent, bodies);
     }
     if item.method == 1 {
         return match idat {

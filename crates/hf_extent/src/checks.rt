@@ -65,18 +65,24 @@ fn is_whole(item: &Located<'_>, extent: &Extent) -> bool
 fn has_zero_length(item: &Located<'_>) -> bool
     ensures { result ≡ has_zero_length_of (item_seen item.now) }
 {
-    item.extents
-        .iter()
-        .any(|extent| extent.length == 0 && !is_whole(item, extent))
+    for extent in item.extents {
+        if extent.length == 0 && !is_whole(item, extent) {
+            return true;
+        }
+    }
+    false
 }
 
 /// Whether an extent passes the end of a source of so many bytes.
 fn any_passes(len: u64, item: &Located<'_>) -> bool
     ensures { result ≡ list_any (passes_of len (item_seen item.now)) (item_seen item.now).extents }
 {
-    item.extents
-        .iter()
-        .any(|extent| passes(u128::from(len), item, extent))
+    for extent in item.extents {
+        if passes(u128::from(len), item, extent) {
+            return true;
+        }
+    }
+    false
 }
 
 /// Whether an extent of method 0 passes the end of a file of so many bytes.

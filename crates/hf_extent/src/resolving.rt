@@ -26,9 +26,9 @@ use std::alloc::Global;
 /// Refuses the first fault that an entry shows by itself.
 #[tactic(auto, unfolding(hf_base::specs::LocationFaults::locations_fault))]
 fn check_entries(idat: Option<&[u8]>, items: &[Located<'_>]) -> Result<(), ReadRefusal>
-    ensures { (F : List ℕ) → let items = items_seen items.now in MatchResult result
-        (λ _. locations_fault F (option_copied idat.entry) items ≡ linked_fault F (option_copied idat.entry) items)
-        (λ why. locations_fault F (option_copied idat.entry) items ≡ Err why) }
+    ensures { (F : List ℕ) → MatchResult result
+        (λ _. locations_fault F (option_copied idat.entry) (items_seen items.now) ≡ linked_fault F (option_copied idat.entry) (items_seen items.now))
+        (λ why. locations_fault F (option_copied idat.entry) (items_seen items.now) ≡ Err why) }
 {
     checks::external(items)?;
     checks::bad_method(items)?;
@@ -58,6 +58,30 @@ fn check_extents(
     check_sizes(alloc, file, idat, ids, items, order)
 }
 
+/// The bytes of each of these items, in an order of them, or the first fault of their extents and
+/// totals, where none comes before these.
+fn resolve_ordered<'a>(
+    alloc: Global,
+    file: &'a [u8],
+    idat: Option<&'a [u8]>,
+    ids: &[u32],
+    items: &[Located<'_>],
+    order: &[usize],
+) -> Result<Vec<Pieces<'a>>, OpenFault>
+    requires rising { Rises ◌<◌ ids.now }
+    requires known { AreAt ids.now (items_seen items.now) }
+    requires ordered { IsOrder (length ids.now) (links_from ids.now 0 (items_seen items.now)) order.now }
+    requires named { bad_index_fault (items_seen items.now) ≡ Ok tt }
+    requires ending { loc_cycle_fault (items_seen items.now) ≡ Ok tt }
+    requires faults { locations_fault file.now (option_copied idat) (items_seen items.now) ≡ extents_fault file.now (option_copied idat) (items_seen items.now) }
+    ensures { MatchOpen result
+        (λ bodies. (locations_fault file.now (option_copied idat.entry) (items_seen items.now) ≡ Ok tt) × AreBytesOf file.now (option_copied idat.entry) (items_seen items.now) bodies.items)
+        (λ why. locations_fault file.now (option_copied idat.entry) (items_seen items.now) ≡ Err why) }
+{
+    check_extents(alloc, file, idat, ids, items, order)?;
+    Ok(bodies(alloc, file, idat, ids, items, order)?)
+}
+
 /// The bytes of each of these items, or the first fault of their places.
 fn resolve_items<'a>(
     alloc: Global,
@@ -68,16 +92,15 @@ fn resolve_items<'a>(
 ) -> Result<Vec<Pieces<'a>>, OpenFault>
     requires rising { Rises ◌<◌ ids.now }
     requires known { AreAt ids.now (items_seen items.now) }
-    ensures { let items = items_seen items.now in MatchOpen result
-        (λ bodies. (locations_fault file.now (option_copied idat.entry) items ≡ Ok tt) × AreBytesOf file.now (option_copied idat.entry) items bodies.items)
-        (λ why. locations_fault file.now (option_copied idat.entry) items ≡ Err why) }
+    ensures { MatchOpen result
+        (λ bodies. (locations_fault file.now (option_copied idat.entry) (items_seen items.now) ≡ Ok tt) × AreBytesOf file.now (option_copied idat.entry) (items_seen items.now) bodies.items)
+        (λ why. locations_fault file.now (option_copied idat.entry) (items_seen items.now) ≡ Err why) }
 {
     check_entries(idat, items)?;
     bad_index(ids, items)?;
     let order = order(alloc, ids, items)?;
     loc_cycle(ids, items, &order)?;
-    check_extents(alloc, file, idat, ids, items, &order.nodes)?;
-    Ok(bodies(alloc, file, idat, ids, items, &order.nodes)?)
+    resolve_ordered(alloc, file, idat, ids, items, &order.nodes)
 }
 
 /// The bytes of each of these items, in the order of the ids, as slices of the file and of `idat`: none

@@ -125,7 +125,12 @@ fn any_passes(
     requires known { sizes.now ≡ stopped len inner (items_seen items.now) }
     ensures { result ≡ list_any (λ extent. passes_of (told 0 (size_are len inner (items_seen items.now)) (source_of (items_seen items.now) (item_seen item.now) extent)) (item_seen item.now) extent) (item_seen item.now).extents }
 {
-    item.extents.iter().any(|extent| passes_source(len, inner, ids, items, item, extent, sizes))
+    for extent in item.extents {
+        if passes_source(len, inner, ids, items, item, extent, sizes) {
+            return true;
+        }
+    }
+    false
 }
 
 /// Whether an extent of method 2 passes the end of another item.

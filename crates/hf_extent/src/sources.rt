@@ -42,9 +42,12 @@ fn any_lacks(ids: &[u32], item: &Located<'_>) -> bool
     requires { Rises ◌<◌ ids.now }
     ensures { result ≡ list_any (λ extent. is_none (place_of ids.now (item_seen item.now) extent)) (item_seen item.now).extents }
 {
-    item.extents
-        .iter()
-        .any(|extent| source(ids, item, extent).is_none())
+    for extent in item.extents {
+        if source(ids, item, extent).is_none() {
+            return true;
+        }
+    }
+    false
 }
 
 /// Whether an extent of method 2 has no such item.

@@ -1,7 +1,8 @@
 -- What is kept while a table is made.
-use Rattle.std.specs.Prelude.{ℕ, ◌≡◌, ◌++◌, List, [], ◌∷◌, length, map, slice_get, Some}
+use Rattle.std.specs.Prelude.{ℕ, ◌≡◌, ◌++◌, ◌<◌, List, [], ◌∷◌, length, map, take, slice_index, slice_get, Some}
 use Rattle.std.specs.List.{AllZip}
 use Rattle.hf_prop.specs.declared.prop.Prop.{Prop}
+use Rattle.hf_table.specs.Held.{all_props}
 use Rattle.hf_table.specs.Table.{number_of, table}
 use Rattle.hf_table.specs.Numbered.{place_of, Stands, IsFirst}
 use Rattle.hf_table.specs.declared.making.Making.{Making}
@@ -11,6 +12,11 @@ pub record IsMade (lists : List (List Prop)) (ps : List Prop) (m : Making) : Typ
   pub seen : m.seen.keys ≡ table ps
   pub firsts : AllZip (IsFirst lists ps) m.firsts.items m.seen.keys
   pub numbers : m.numbers.items ≡ map (λ p. number_of p m.seen.keys) ps
+
+-- the numbers of each list begin at these places
+pub record AreStarts (lists : List (List Prop)) (starts : List ℕ) : Type 0 where
+  pub count : length starts ≡ length lists
+  pub begin : (i : ℕ) → i < length lists → slice_index starts i ≡ length (all_props (take i lists))
 
 -- one more property is met, the j-th one of the i-th list
 abbrev pub Notes : Making → ℕ → ℕ → Prop → Making → Type 0
