@@ -24,6 +24,7 @@ pub mod RisingLaws
 pub mod RunLaws
 pub mod SearchLaws
 pub mod SortedLaws
+pub mod Steps
 pub mod StoreFaults
 pub mod StoreLaws
 pub mod TableParts
