@@ -29,4 +29,5 @@ pub mod StoreFaults
 pub mod StoreLaws
 pub mod TableParts
 pub mod TopLevelLaws
+pub mod ValidRead
 pub mod WalkLaws

@@ -83,11 +83,7 @@ fn iref_of(alloc: Global, iref: Option<BoxView<'_>>) -> Result<Vec<RefBox>, Open
 /// The references of an `iref`. It refuses what `read_iref` refuses, and then an item that needs one
 /// that is none of these.
 #[tactic(auto, unfolding(crate::specs::Reading::links_for))]
-fn needs_of(
-    alloc: Global,
-    ids: &[u32],
-    iref: Option<BoxView<'_>>,
-) -> Result<Vec<RefBox>, OpenFault>
+fn needs_of(alloc: Global, ids: &[u32], iref: Option<BoxView<'_>>) -> Result<Vec<RefBox>, OpenFault>
     requires kind { IfSome iref (IsBoxOf kinds.IREF) }
     requires rise { Rises ◌<◌ ids.now }
     ensures { Gives (λ links. links.items) result (links_for ids.now (option_map box_of iref.entry)) }
