@@ -1,8 +1,12 @@
 -- What a loop over a list gathers: a value for each of its elements so far.
-use Rattle.std.proofs.Common.{◌≡◌, ℕ, Bool, true, false, ◌+◌, ◌<◌, List, [], ◌∷◌, ◌++◌, length, map, take, get_or, refl, sym, ap, ◌∙◌}
+use Rattle.std.proofs.Common.{◌≡◌, ℕ, Bool, true, false, ◌+◌, ◌<◌, ◌≤◌, List, [], ◌∷◌, ◌++◌, length, map, take, get_or, refl, sym, ap, ◌∙◌}
 use Rattle.std.specs.List.{filter}
-use Rattle.std.proofs.lemmas.List.{append_assoc, append-nil, map_more, map-append}
+use Rattle.std.proofs.lemmas.List.{append_assoc, append-nil, map_more, map-append, take_all}
 use Rattle.std.proofs.lemmas.List.Elements.{filter-append}
+
+-- what holds of all elements so far holds of all, where none is left
+pub all_taken : {A B : Type 0} (f : List A → B) (xs : List A) (i : ℕ) (x : B) → length xs ≤ i → x ≡ f (take i xs) → x ≡ f xs
+all_taken f xs i x past so_far = so_far ∙ ap f (take_all i xs past)
 
 -- a part of what an element is seen as
 pub part_at : {A B C : Type 0} (view : A → B) (part : B → C) (xs : List A) (i : ℕ) (x : A) (ys new : List C) → i < length xs

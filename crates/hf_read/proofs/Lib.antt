@@ -24,8 +24,10 @@ pub mod RisingLaws
 pub mod RunLaws
 pub mod SearchLaws
 pub mod SortedLaws
+pub mod Steps
 pub mod StoreFaults
 pub mod StoreLaws
 pub mod TableParts
 pub mod TopLevelLaws
+pub mod ValidRead
 pub mod WalkLaws

@@ -1,15 +1,20 @@
 -- The chain of reading, as the code goes along it.
-use Rattle.std.proofs.Common.{◌≡◌, ℕ, ◌≤◌, ◌<◌, List, [], ◌∷◌, length, map, Option, Result, Ok, Err, refl, sym, ap, subst, ◌∙◌}
+use Rattle.std.proofs.Common.{◌≡◌, true, ℕ, ◌≤◌, ◌<◌, List, [], ◌∷◌, length, map, Option, Result, Ok, Err, refl, sym, ap, subst, ◌∙◌}
 use Rattle.std.specs.Prelude.{IfOk}
 use Rattle.hf_base.specs.LocationFaults.{locations_fault}
 use Rattle.hf_base.specs.Members.{IsIn, Rises}
 use Rattle.hf_base.specs.Number.{IsBytes}
-use Rattle.hf_base.specs.Reading.{Fails, Gives, IfUnfit, MatchOpen}
-use Rattle.hf_base.specs.ReadingLaws.{ok_is}
+use Rattle.hf_base.specs.Reading.{◌>>=◌, Fails, Gives, IfUnfit, MatchOpen}
+use Rattle.hf_base.specs.ReadingLaws.{bind_ok, ok_is}
 use Rattle.hf_base.specs.declared.fault.OpenFault.{OpenFault}
 use Rattle.hf_base.specs.declared.fault.OpenFault.TheVariants as errors
 use Rattle.hf_base.specs.declared.fault.ReadRefusal.{ReadRefusal}
+use Rattle.hf_base.specs.declared.fault.ReadRefusal.TheVariants.{NoMeta}
+use Rattle.hf_base.specs.declared.kinds.TheConstants.{META}
 use Rattle.hf_base.specs.declared.limits.TheConstants.{FILE}
+use Rattle.hf_box.specs.Boxes.{BoxAt}
+use Rattle.hf_box.specs.Framing.{frames}
+use Rattle.hf_box.specs.Walk.{children_at}
 use Rattle.hf_derived.specs.Cycle.{AreAmong}
 use Rattle.hf_head.specs.Ftyp.{Brands}
 use Rattle.hf_head.specs.Hdlr.{hdlr_at}
@@ -28,11 +33,12 @@ use Rattle.hf_read.specs.Kept.{kept_refs}
 use Rattle.hf_read.specs.Opening.{IsMetaOf, IsStoreOf}
 use Rattle.hf_read.specs.Reading.{idat_of, item_at, store_at, tables_at, checked, reading_parts, reading}
 use Rattle.hf_read.specs.Tables.{Tables, infos_by_id, item_ids, items_in}
-use Rattle.hf_read.specs.TopLevel.{Parts}
+use Rattle.hf_read.specs.TopLevel.{brands_at, first_fault, first_of, found, inner_parts, meta_of, Parts, parts_of, top_box_fault, top_of}
 use Rattle.hf_read.proofs.FirstFaults.{fine}
 use Rattle.hf_read.proofs.KeptRefs.{list_kind, joined_passes}
 use Rattle.hf_read.proofs.ReadLaws.{limited, store_primary, store_read, store_again, fault_again}
 use Rattle.hf_read.proofs.ReadingLaws.{reading_denotes}
+use Rattle.hf_read.proofs.Steps.{joined}
 use Rattle.hf_read.proofs.StoreFaults.{LeadToItems, pairs_among}
 use Rattle.hf_read.proofs.StoreLaws.{is_sound}
 
@@ -118,6 +124,46 @@ module _ (F : List ℕ) (brands : Brands) (parts : Parts) where
                 is = is ∙ ap (λ (n : ℕ). store_at F (idat_of parts) brands n t) first;
                 derived = derived;
               }
+
+-- ---- the boxes of `meta`
+
+-- what is left of the program behind the boxes of the file and its brands
+regrouped : {A B C D E : Type 0} (once : Result A ReadRefusal) (found : Result B ReadRefusal) (brands : E) (f : B → Result C ReadRefusal)
+    (g : C → Result D ReadRefusal) (h : E → D → Result ItemStore ReadRefusal)
+    → ((once >>= λ (a : A). found >>= λ (meta : B). Ok (brands, meta)) >>= λ (top : E × B). f top.1 >>= λ (children : C). g children >>= h top.0)
+    ≡ (((once >>= λ (a : A). found) >>= λ (meta : B). f meta >>= g) >>= h brands)
+regrouped (Err e) found brands f g h = refl
+regrouped (Ok a) (Err e) brands f g h = refl
+regrouped (Ok a) (Ok meta) brands f g h = sym (joined (f meta) g (h brands))
+
+module _ (F : List ℕ) (boxes : List BoxAt) (brands : Brands) (framed : frames true 0 F ≡ Ok boxes) (named : brands_at boxes ≡ Ok brands) where
+  by_parts : reading F ≡ (inner_parts boxes >>= reading_parts F brands)
+  unfolding reading top_of inner_parts meta_of
+  by_parts =
+      rw (framed, named) (regrouped (first_fault top_box_fault [] boxes) (found NoMeta (first_of META boxes)) brands children_at parts_of (reading_parts F))
+
+  pub meta_told : (e : OpenFault) → Fails e (inner_parts boxes) → Fails e (reading F)
+  meta_told errors.NoMemory h = tt
+  meta_told (errors.Unfit e) h = by_parts ∙ rw h refl
+
+  top_is : (meta : BoxAt) → meta_of boxes ≡ Ok meta → top_of boxes ≡ Ok (brands, meta)
+  unfolding top_of meta_of
+  top_is meta h = let a = bind_ok (first_fault top_box_fault [] boxes) _ meta h in rw (named, a.1, a.2) refl
+
+  pub is_meta : (parts : Parts) → inner_parts boxes ≡ Ok parts → IsMetaOf F brands parts
+  unfolding inner_parts
+  is_meta parts h =
+      let a = bind_ok (meta_of boxes) _ parts h in
+      let b = bind_ok (children_at a.0) _ parts a.2 in
+      record {
+        boxes = boxes;
+        framed = framed;
+        meta = a.0;
+        top = top_is a.0 a.1;
+        children = b.0;
+        inner = b.1;
+        are_parts = b.2;
+      }
 
 -- ---- the whole
 

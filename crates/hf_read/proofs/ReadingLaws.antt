@@ -85,7 +85,7 @@ ids_are F s d = ids_zip F (idat_of d.parts) d.tables (infos_by_id d.tables.infos
 good_item : (s : ItemStore) → Valid s → (i : Item) → IsIn i s.items → IsGoodItem s.items i
 good_item s valid i h = in_all (IsGoodItem s.items) s.items valid.items i h
 
-keeps_limits : (s : ItemStore) → Valid s → KeepsLimits s
+pub keeps_limits : (s : ItemStore) → Valid s → KeepsLimits s
 keeps_limits s valid = record {
   count = valid.count;
   links = λ i r h k. (in_all (IsGoodRef s.items) i.refs (good_item s valid i h).refs r k).links;

@@ -5,6 +5,7 @@ use Rattle.hf_base.specs.BytesOf.{bytes_of}
 use Rattle.hf_base.specs.LocationFaults.{locations_fault}
 use Rattle.hf_base.specs.Reading.{◌>>=◌}
 use Rattle.hf_base.specs.declared.fault.ReadRefusal.{ReadRefusal}
+use Rattle.hf_base.specs.declared.loc.RefBox.{RefBox}
 use Rattle.hf_box.specs.Boxes.{BoxAt}
 use Rattle.hf_box.specs.Framing.{frames}
 use Rattle.hf_box.specs.Walk.{children_at}
@@ -13,6 +14,7 @@ use Rattle.hf_head.specs.Hdlr.{hdlr_at}
 use Rattle.hf_head.specs.Pitm.{pitm_at}
 use Rattle.hf_info.specs.Infe.{Info}
 use Rattle.hf_info.specs.Iinf.{iinf_at}
+use Rattle.hf_prop.specs.declared.iprp.Iprp.{Iprp}
 use Rattle.hf_store.specs.Store.{Item, ItemStore}
 use Rattle.hf_store.specs.LimitFaults.{limits_fault}
 use Rattle.hf_read.specs.Faults.{no_primary_fault, dangling_need_fault, bad_property_fault, derived_fault}
@@ -66,6 +68,28 @@ tables_at primary parts = do
   needs ← dangling_need_fault (item_ids infos) links
   iprp ← iprp_in parts.iprp
   picks ← bad_property_fault (item_ids infos) iprp
+  groups ← groups_in parts.grpl
+  Ok (record { infos = infos; locs = locs; links = links; iprp = iprp; groups = groups })
+
+-- references that name all items that these need, and properties that are there for all associations of these
+unfoldable pub links_for : List ℕ → Option BoxAt → Result (List RefBox) ReadRefusal
+links_for ids iref = do
+  links ← links_in iref
+  needs ← dangling_need_fault ids links
+  Ok links
+
+unfoldable pub props_for : List ℕ → Option BoxAt → Result Iprp ReadRefusal
+props_for ids iprp = do
+  props ← iprp_in iprp
+  picks ← bad_property_fault ids props
+  Ok props
+
+-- the tables with these entries on items, whose ids rise
+unfoldable pub tables_of : List Info → List ℕ → Parts → Result Tables ReadRefusal
+tables_of infos ids parts = do
+  locs ← locs_in parts.iloc
+  links ← links_for ids parts.iref
+  iprp ← props_for ids parts.iprp
   groups ← groups_in parts.grpl
   Ok (record { infos = infos; locs = locs; links = links; iprp = iprp; groups = groups })
 

@@ -12,7 +12,7 @@ use Rattle.hf_base.specs.declared.fault.ReadRefusal.TheVariants.{NoFtyp, NotMif1
 use Rattle.hf_base.specs.declared.kinds.TheConstants.{FTYP, META, HDLR, PITM, MOOV, MOOF, IINF, ILOC, IREF, IPRP, GRPL, IDAT, IPRO, XML, BXML, MIF1}
 use Rattle.hf_box.specs.Boxes.{BoxAt}
 use Rattle.hf_box.specs.Tables.{of_kind}
-use Rattle.hf_box.specs.Walk.{is_kind}
+use Rattle.hf_box.specs.Walk.{children_at, is_kind}
 use Rattle.hf_head.specs.Ftyp.{Brands, ftyp_at}
 
 abbrev pub has_kind : FourCc → List BoxAt → Bool
@@ -94,6 +94,12 @@ top_of boxes = do
   meta ← found NoMeta (first_of META boxes)
   Ok (brands, meta)
 
+-- the `meta`, of boxes whose first one is good
+unfoldable pub meta_of : List BoxAt → Result BoxAt ReadRefusal
+meta_of boxes = do
+  once ← first_fault top_box_fault [] boxes
+  found NoMeta (first_of META boxes)
+
 -- ---- the boxes of meta
 
 -- the boxes of `meta` that are read
@@ -153,3 +159,23 @@ parts_of children = do
     grpl = first_of GRPL children;
     idat = first_of IDAT children;
   })
+
+-- these boxes of the types that `meta` must have, and the others of its boxes that are read
+abbrev pub parts_with : List BoxAt → BoxAt → BoxAt → BoxAt → Parts
+parts_with children hdlr pitm iinf = record {
+  hdlr = hdlr;
+  pitm = pitm;
+  iinf = iinf;
+  iloc = first_of ILOC children;
+  iref = first_of IREF children;
+  iprp = first_of IPRP children;
+  grpl = first_of GRPL children;
+  idat = first_of IDAT children;
+}
+
+-- the boxes that are read of the `meta` among boxes whose first one is good
+unfoldable pub inner_parts : List BoxAt → Result Parts ReadRefusal
+inner_parts boxes = do
+  meta ← meta_of boxes
+  children ← children_at meta
+  parts_of children

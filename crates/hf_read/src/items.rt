@@ -1,7 +1,7 @@
 //! The items of a store, and its other parts.
 
 ghost use Rattle.std.specs.Option.{option_copied};
-ghost use Rattle.std.specs.Prelude.{◌≡◌, ◌<◌, ◌++◌, ◌∷◌, List, map, option_to_list, IfOk, Ok, Err};
+ghost use Rattle.std.specs.Prelude.{◌≡◌, ◌<◌, ◌++◌, ◌∷◌, List, map, IfOk, OnOk, Ok, Err};
 ghost use Rattle.std.specs.Vec.Iter.{into_iter_items};
 ghost use Rattle.hf_base.specs.LocationFaults.{locations_fault};
 ghost use Rattle.hf_base.specs.Members.{Rises};
@@ -48,20 +48,27 @@ fn item<'a>(info: &Info<'a>, body: Pieces<'a>, props: Props<'a>, refs: Refs) -> 
     }
 }
 
-/// The item of an entry, with the next bytes, properties and references, while all of them last.
-fn next_item<'a>(
+/// Adds the item of an entry, with the next bytes, properties and references, while all of them last.
+fn add_item<'a>(
+    items: &mut ItemList<'a>,
     info: &Info<'a>,
     bodies: &mut IntoIter<Pieces<'a>, Global>,
     props: &mut IntoIter<Props<'a>, Global>,
     refs: &mut IntoIter<Refs, Global>,
-) -> Option<Item<'a>>
-    ensures { (infos : List Stated) → items_with (info_of info.now ∷ infos) (map joined (into_iter_items bodies.old)) (into_iter_items props.old) (into_iter_items refs.old)
-        ≡ items_of (option_to_list result) ++ items_with infos (map joined (into_iter_items bodies.new)) (into_iter_items props.new) (into_iter_items refs.new) }
+) -> Result<(), NoMemory>
+    ensures { (infos : List Stated) → OnOk result (items_of items.new ++ items_with infos (map joined (into_iter_items bodies.new)) (into_iter_items props.new) (into_iter_items refs.new)
+        ≡ items_of items.old ++ items_with (info_of info.now ∷ infos) (map joined (into_iter_items bodies.old)) (into_iter_items props.old) (into_iter_items refs.old)) }
 {
-    let body = bodies.next()?;
-    let props = props.next()?;
-    let refs = refs.next()?;
-    Some(item(info, body, props, refs))
+    let Some(body) = bodies.next() else {
+        return Ok(());
+    };
+    let Some(props) = props.next() else {
+        return Ok(());
+    };
+    let Some(refs) = refs.next() else {
+        return Ok(());
+    };
+    items.push(item(info, body, props, refs))
 }
 
 /// An item for each entry, with its bytes, properties and references.
@@ -79,9 +86,7 @@ fn items<'a>(
     let mut props = props.into_iter();
     let mut refs = refs.into_iter();
     for info in infos {
-        if let Some(item) = next_item(info, &mut bodies, &mut props, &mut refs) {
-            items.push(item)?;
-        }
+        add_item(&mut items, info, &mut bodies, &mut props, &mut refs)?;
     }
     Ok(items)
 }

@@ -110,6 +110,19 @@ fn refs_of(alloc: Global, ids: &[u32], boxes: &[&RefBox], from: u32) -> Result<R
     Ok(refs)
 }
 
+/// The lists of each of these items, out of boxes in order.
+fn refs_of_each(alloc: Global, ids: &[u32], boxes: &[&RefBox]) -> Result<Vec<Refs>, NoMemory>
+    requires rise { Rises ◌<◌ ids.now }
+    requires sorted { AreInOrder boxes.now }
+    ensures { IfOk result (λ lists. lists.items ≡ map (kept ids.now (seen boxes.now)) ids.now) }
+{
+    let mut lists = Vec::with_capacity(alloc, ids.len())?;
+    for id in ids {
+        lists.push(refs_of(alloc, ids, boxes, *id)?)?;
+    }
+    Ok(lists)
+}
+
 /// The references that a store keeps for each of the items with these ids, in the order of the ids, out
 /// of the boxes of `iref` in file order: a list for each type but `iloc` that leads to an item, by rising
 /// type, with the ids of items alone. `NoMemory` comes where memory was refused. Which references are
@@ -119,9 +132,5 @@ pub fn kept_refs(alloc: Global, ids: &[u32], links: &[RefBox]) -> Result<Vec<Ref
     ensures { IfOk result (λ lists. lists.items ≡ map (kept ids.now links.now) ids.now) }
 {
     let boxes = in_order(alloc, links)?;
-    let mut lists = Vec::with_capacity(alloc, ids.len())?;
-    for id in ids {
-        lists.push(refs_of(alloc, ids, &boxes, *id)?)?;
-    }
-    Ok(lists)
+    refs_of_each(alloc, ids, &boxes)
 }

@@ -7,9 +7,9 @@ ghost use Rattle.hf_box.specs.Boxes.{box_of, boxes_of, end_of};
 ghost use Rattle.hf_box.specs.Walk.{children_at};
 ghost use Rattle.hf_head.specs.Ftyp.{brands_of};
 ghost use Rattle.hf_read.specs.TopLevel.{has_brand, has_mif1 as has_mif1_brand, found as find_box, ftyp_of as first_ftyp, brands_at};
-ghost use Rattle.hf_read.specs.TopLevel.{top_of as top_boxes, parts_of as meta_parts};
+ghost use Rattle.hf_read.specs.TopLevel.{inner_parts as parts_in_meta, meta_of as meta_box, parts_of as parts_stated, parts_with as stated_with};
 ghost use Rattle.hf_base.specs.declared.fault.ReadRefusal.TheVariants.{Missing};
-ghost use Rattle.hf_read.specs.Seen.{parts_seen, HaveKinds};
+ghost use Rattle.hf_read.specs.Seen.{parts_seen, HaveKinds, IsBoxOf};
 
 use crate::level::{check_children, check_top, first_of};
 use crate::meta::MetaParts;
@@ -53,7 +53,7 @@ fn ftyp_of<'a>(boxes: &[BoxView<'a>]) -> Result<BoxView<'a>, ReadRefusal>
 
 /// The brands of the file, which must have `mif1` among them.
 #[tactic(auto, unfolding(crate::specs::TopLevel::brands_at))]
-fn brands<'a>(boxes: &[BoxView<'a>]) -> Result<Brands<'a>, ReadRefusal>
+pub fn brands_of<'a>(boxes: &[BoxView<'a>]) -> Result<Brands<'a>, ReadRefusal>
     ensures { Reads brands_of result (brands_at (boxes_of boxes.now)) }
 {
     let ftyp = ftyp_of(boxes)?;
@@ -64,30 +64,25 @@ fn brands<'a>(boxes: &[BoxView<'a>]) -> Result<Brands<'a>, ReadRefusal>
     Ok(brands)
 }
 
-/// The brands of the file, and its `meta`. It refuses a first box that is not `ftyp`, then what
-/// `read_ftyp` refuses, then brands without `mif1`, then the first box that is a movie or a second
-/// `ftyp` or `meta`, then a file without a `meta`.
-#[tactic(auto, unfolding(crate::specs::TopLevel::top_of))]
-pub fn top_of<'a>(
-    alloc: Global,
-    boxes: &[BoxView<'a>],
-) -> Result<(Brands<'a>, BoxView<'a>), OpenFault>
+/// The `meta` of the file. It refuses the first box that is a movie or a second `ftyp` or `meta`, and
+/// then a file without a `meta`.
+#[tactic(auto, unfolding(crate::specs::TopLevel::meta_of))]
+fn meta_of<'a>(alloc: Global, boxes: &[BoxView<'a>]) -> Result<BoxView<'a>, OpenFault>
     requires { All (λ b. end_of (box_of b) < 2 ^ 64) boxes.now }
-    ensures exact { Gives (λ x. (brands_of x.0, box_of x.1)) result (top_boxes (boxes_of boxes.now)) }
-    ensures kind { IfOk result (λ x. x.1.kind ≡ META) }
-    ensures within { IfOk result (λ x. end_of (box_of x.1) < 2 ^ 64) }
+    ensures exact { Gives box_of result (meta_box (boxes_of boxes.now)) }
+    ensures kind { IfOk result (λ b. b.kind ≡ META) }
+    ensures within { IfOk result (λ b. end_of (box_of b) < 2 ^ 64) }
 {
-    let brands = brands(boxes)?;
     check_top(alloc, boxes)?;
     match first_of(boxes, META) {
-        Some(meta) => Ok((brands, meta)),
+        Some(meta) => Ok(meta),
         None => Err(OpenFault::Unfit(ReadRefusal::NoMeta)),
     }
 }
 
 /// The boxes in a `meta`, behind its version and flags.
 #[tactic(auto, unfolding(hf_box::specs::Walk::children_at))]
-pub fn children_of<'a>(alloc: Global, meta: &BoxView<'a>) -> Result<Vec<BoxView<'a>>, OpenFault>
+fn children_of<'a>(alloc: Global, meta: &BoxView<'a>) -> Result<Vec<BoxView<'a>>, OpenFault>
     requires place { end_of (box_of meta.now) < 2 ^ 64 }
     requires kind { meta.now.kind ≡ META }
     ensures exact { Gives (λ v. boxes_of v.items) result (children_at (box_of meta.now)) }
@@ -115,19 +110,21 @@ fn needed<'a>(found: Option<BoxView<'a>>, kind: FourCc) -> Result<BoxView<'a>, R
     found.ok_or(ReadRefusal::Missing { kind })
 }
 
-/// The boxes of `meta` that are read. It refuses the first child that is not accepted or is a
-/// second one, and then `meta` without a `hdlr`, `pitm` or `iinf`.
-#[tactic(auto, unfolding(crate::specs::TopLevel::parts_of))]
-pub fn parts_of<'a>(alloc: Global, children: &[BoxView<'a>]) -> Result<MetaParts<'a>, OpenFault>
-    requires { All (λ b. end_of (box_of b) < 2 ^ 64) children.now }
-    ensures exact { Gives parts_seen result (meta_parts (boxes_of children.now)) }
-    ensures kinds { IfOk result HaveKinds }
+/// The boxes of `meta` that are read, with these of the types that it must have.
+fn parts_with<'a>(
+    children: &[BoxView<'a>],
+    hdlr: BoxView<'a>,
+    pitm: BoxView<'a>,
+    iinf: BoxView<'a>,
+) -> MetaParts<'a>
+    requires within { All (λ b. end_of (box_of b) < 2 ^ 64) children.now }
+    requires hdlr { IsBoxOf HDLR hdlr }
+    requires pitm { IsBoxOf PITM pitm }
+    requires iinf { IsBoxOf IINF iinf }
+    ensures seen { parts_seen result ≡ stated_with (boxes_of children.now) (box_of hdlr.entry) (box_of pitm.entry) (box_of iinf.entry) }
+    ensures kinds { HaveKinds result }
 {
-    check_children(alloc, children)?;
-    let hdlr = needed(first_of(children, HDLR), HDLR)?;
-    let pitm = needed(first_of(children, PITM), PITM)?;
-    let iinf = needed(first_of(children, IINF), IINF)?;
-    Ok(MetaParts {
+    MetaParts {
         hdlr,
         pitm,
         iinf,
@@ -136,5 +133,33 @@ pub fn parts_of<'a>(alloc: Global, children: &[BoxView<'a>]) -> Result<MetaParts
         iprp: first_of(children, IPRP),
         grpl: first_of(children, GRPL),
         idat: first_of(children, IDAT),
-    })
+    }
+}
+
+/// The boxes of `meta` that are read. It refuses the first child that is not accepted or is a
+/// second one, and then `meta` without a `hdlr`, `pitm` or `iinf`.
+#[tactic(auto, unfolding(crate::specs::TopLevel::parts_of))]
+fn parts_of<'a>(alloc: Global, children: &[BoxView<'a>]) -> Result<MetaParts<'a>, OpenFault>
+    requires { All (λ b. end_of (box_of b) < 2 ^ 64) children.now }
+    ensures exact { Gives parts_seen result (parts_stated (boxes_of children.now)) }
+    ensures kinds { IfOk result HaveKinds }
+{
+    check_children(alloc, children)?;
+    let hdlr = needed(first_of(children, HDLR), HDLR)?;
+    let pitm = needed(first_of(children, PITM), PITM)?;
+    let iinf = needed(first_of(children, IINF), IINF)?;
+    Ok(parts_with(children, hdlr, pitm, iinf))
+}
+
+/// The boxes that are read of the `meta` of a file with these boxes. It refuses what `meta_of`,
+/// `children_of` and `parts_of` refuse, in this order.
+#[tactic(auto, unfolding(crate::specs::TopLevel::inner_parts))]
+pub fn meta_parts<'a>(alloc: Global, boxes: &[BoxView<'a>]) -> Result<MetaParts<'a>, OpenFault>
+    requires { All (λ b. end_of (box_of b) < 2 ^ 64) boxes.now }
+    ensures exact { Gives parts_seen result (parts_in_meta (boxes_of boxes.now)) }
+    ensures kinds { IfOk result HaveKinds }
+{
+    let meta = meta_of(alloc, boxes)?;
+    let children = children_of(alloc, &meta)?;
+    parts_of(alloc, &children)
 }

@@ -1,14 +1,17 @@
-use Rattle.std.proofs.Common.{arith, ◌≤◌, ℕ, List, length, map, ap, ◌∙◌}
-use Rattle.std.proofs.lemmas.List.{take_all}
+use Rattle.std.proofs.Common.{◌≡◌, List, ap, map, subst, ◌∙◌}
+use Rattle.std.specs.Prelude.{IfOk}
+use Rattle.hf_base.specs.declared.loc.RefBox.{RefBox}
+use Rattle.hf_store.specs.declared.item.RefList.{RefList}
 use Rattle.hf_read.specs.Kept.{kept_refs}
 use Rattle.hf_read.specs.References.{seen}
 use Rattle.hf_read.proofs.ReferenceLaws.{all_kept}
 use Rattle.hf_read.proofs.references.kept_refs.Goals as goal
+use denote.Ref.{Bor}
 
 pub returns : goal.returns
 returns c =
     let ids = c.args.ids.now in
-    let boxes = c.in_ok-boxes.boxes.items in
-    let whole : length ids ≤ c.loop-id.id-index = omega (arith, c.loop-id-test.false, c.loop-id.auto.id-index-end) in
-    c.loop-id.invariant ∙ ap (λ (some : List ℕ). map (kept_refs ids (seen boxes)) some) (take_all c.loop-id.id-index ids whole)
-    ∙ all_kept ids boxes c.args.links.now c.in_ok-boxes.ensures.same ids
+    let links = c.args.links.now in
+    let same = ap (λ (boxes : List (Bor RefBox)). map (kept_refs ids (seen boxes)) ids) c.deref.ensures.value
+    ∙ all_kept ids c.in_ok-boxes.boxes.items links c.in_ok-boxes.ensures.same ids in
+    subst (λ (kept : List (List RefList)). IfOk c.refs_of_each.result (λ lists. lists.items ≡ kept)) same c.refs_of_each.ensures
