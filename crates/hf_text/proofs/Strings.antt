@@ -1,5 +1,5 @@
 -- The texts of strings and brands, part by part.
-use Rattle.std.proofs.Common.{◌≡◌, ◌<◌, ◌≤◌, ◌+◌, ℕ, Bool, true, false, List, [], ◌∷◌, ◌++◌, length, take, drop, get_or, refl, sym, ap, ◌∙◌, arith, append_assoc}
+use Rattle.std.proofs.Common.{◌≡◌, ◌<◌, ◌≤◌, ◌+◌, ℕ, Bool, true, false, List, [], ◌∷◌, ◌++◌, length, take, drop, get_or, refl, sym, ap, ◌∙◌, arith, append_assoc, length-append}
 use Rattle.std.specs.Prelude.{◌==◌, ◌/◌, ◌%◌, if◌then◌else◌, codes}
 use Rattle.std.specs.List.{flat_map}
 use Rattle.std.specs.Str.{bytes_eq}
@@ -36,6 +36,14 @@ other_byte text begun more all byte high low is front first second one two =
     ∙ append_assoc text (codes "\\x" ++ high ∷ []) (low ∷ [])
     ∙ ap (λ (l : List ℕ). text ++ (codes "\\x" ++ l)) digits
     ∙ ap (λ (l : List ℕ). text ++ l) (sym (not_chosen (is_plain byte) (byte ∷ []) (codes "\\x" ++ hex_digit_of (byte / 16) ∷ hex_digit_of (byte % 16) ∷ []) is))
+
+-- a word behind a space
+module _ (text begun all word : List ℕ) (space : 32 < 128 → begun ≡ text ++ codes " ") (last : all ≡ begun ++ word) where
+  pub after_space : all ≡ text ++ (codes " " ++ word)
+  after_space = last ∙ ap (λ (l : List ℕ). l ++ word) (space (omega arith)) ∙ append_assoc text (codes " ") word
+
+  pub after_space-length : (n : ℕ) → length word ≤ n → length all ≤ length text + (n + 1)
+  after_space-length n short = omega (arith, short, ap length after_space, length-append text (codes " " ++ word))
 
 -- there is a byte
 pub filled : (bytes : List ℕ) (b : Bool) → b ≡ (length bytes == 0) → b ≡ false → 0 < length bytes
