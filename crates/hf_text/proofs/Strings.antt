@@ -1,5 +1,5 @@
 -- The texts of strings and brands, part by part.
-use Rattle.std.proofs.Common.{◌≡◌, ◌<◌, ◌≤◌, ◌+◌, ℕ, Bool, true, false, List, [], ◌∷◌, ◌++◌, length, take, drop, get_or, refl, sym, ap, ◌∙◌, arith, append_assoc, length-append}
+use Rattle.std.proofs.Common.{◌≡◌, ◌<◌, ◌≤◌, ◌+◌, ℕ, suc, Bool, true, false, List, [], ◌∷◌, ◌++◌, length, take, drop, get_or, refl, sym, ap, ◌∙◌, arith, append_assoc, length-append}
 use Rattle.std.specs.Prelude.{◌==◌, ◌/◌, ◌%◌, if◌then◌else◌, codes}
 use Rattle.std.specs.List.{flat_map}
 use Rattle.std.specs.Str.{bytes_eq}
@@ -43,7 +43,9 @@ module _ (text begun all word : List ℕ) (space : 32 < 128 → begun ≡ text +
   after_space = last ∙ ap (λ (l : List ℕ). l ++ word) (space (omega arith)) ∙ append_assoc text (codes " ") word
 
   pub after_space-length : (n : ℕ) → length word ≤ n → length all ≤ length text + (n + 1)
-  after_space-length n short = omega (arith, short, ap length after_space, length-append text (codes " " ++ word))
+  after_space-length n short =
+      let whole : length all ≡ length text + suc (length word) = ap length after_space ∙ length-append text (codes " " ++ word) in
+      omega arith
 
 -- there is a byte
 pub filled : (bytes : List ℕ) (b : Bool) → b ≡ (length bytes == 0) → b ≡ false → 0 < length bytes
