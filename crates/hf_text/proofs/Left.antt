@@ -59,7 +59,3 @@ module _ (bytes : List ℕ) (d : ℕ) (some : 0 < length bytes) where
 
   pub first_stop : {a b c : Outside} {h w m n : List ℕ} {r s : Wrote} → IsErr r → IsErr s → Leaves a h w (flat_map byte_text bytes) b m → Gives BySay b m (byte_text (get_or bytes 0 d)) r c n → Gives BySay a h w s c n
   first_stop ir is p q = leaves_stop (byte_text (get_or bytes 0 d)) (flat_map byte_text (drop 1 bytes)) (flat_map byte_text bytes) (texts_here byte_text bytes 0 d some) ir is p q
-
--- the exit of a `?` behind bytes that were not given whole, where more was to come
-pub stops_there : {a b : Outside} {h x m : List ℕ} {r s : Wrote} (rest : List ℕ) → Gives BySay a h x r b m → IsErr r → IsErr s → Gives BySay a h (x ++ rest) s b m
-stops_there rest p ir is = gives_stops rest ir is p

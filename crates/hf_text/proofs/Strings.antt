@@ -1,5 +1,5 @@
 -- The texts of strings and brands, part by part.
-use Rattle.std.proofs.Common.{◌≡◌, ◌<◌, ◌≤◌, ◌+◌, ℕ, Bool, true, false, List, [], ◌∷◌, ◌++◌, length, take, drop, get_or, refl, sym, ap, ◌∙◌, arith}
+use Rattle.std.proofs.Common.{◌≡◌, ◌<◌, ◌≤◌, ◌+◌, ℕ, suc, Bool, true, false, List, [], ◌∷◌, ◌++◌, length, take, drop, get_or, refl, sym, ap, ◌∙◌, arith, append_assoc, length-append}
 use Rattle.std.specs.Prelude.{◌==◌, ◌/◌, ◌%◌, if◌then◌else◌, codes}
 use Rattle.std.specs.List.{flat_map}
 use Rattle.std.specs.Str.{bytes_eq}
@@ -18,8 +18,34 @@ chosen : (b : Bool) (x y : List ℕ) → b ≡ true → (if b then x else y) ≡
 chosen true x y e = refl
 chosen false x y e = absurd (cc)
 
+not_chosen : (b : Bool) (x y : List ℕ) → b ≡ false → (if b then x else y) ≡ y
+not_chosen true x y e = absurd (cc)
+not_chosen false x y e = refl
+
 pub plain_byte : (byte : ℕ) → is_plain byte ≡ true → byte_text byte ≡ byte ∷ []
 plain_byte byte is = chosen (is_plain byte) (byte ∷ []) (codes "\\x" ++ hex_digit_of (byte / 16) ∷ hex_digit_of (byte % 16) ∷ []) is
+
+-- a byte that is no plain one, piece by piece
+pub other_byte : (text begun more all : List ℕ) (byte high low : ℕ) → is_plain byte ≡ false → begun ≡ text ++ codes "\\x" → high ≡ hex_digit_of (byte / 16)
+    → low ≡ hex_digit_of (byte % 16) → more ≡ begun ++ high ∷ [] → all ≡ more ++ low ∷ [] → all ≡ text ++ byte_text byte
+other_byte text begun more all byte high low is front first second one two =
+    let whole : all ≡ ((text ++ codes "\\x") ++ high ∷ []) ++ low ∷ [] = cc in
+    let digits : high ∷ low ∷ [] ≡ hex_digit_of (byte / 16) ∷ hex_digit_of (byte % 16) ∷ [] = cc in
+    whole
+    ∙ ap (λ (l : List ℕ). l ++ low ∷ []) (append_assoc text (codes "\\x") (high ∷ []))
+    ∙ append_assoc text (codes "\\x" ++ high ∷ []) (low ∷ [])
+    ∙ ap (λ (l : List ℕ). text ++ (codes "\\x" ++ l)) digits
+    ∙ ap (λ (l : List ℕ). text ++ l) (sym (not_chosen (is_plain byte) (byte ∷ []) (codes "\\x" ++ hex_digit_of (byte / 16) ∷ hex_digit_of (byte % 16) ∷ []) is))
+
+-- a word behind a space
+module _ (text begun all word : List ℕ) (space : 32 < 128 → begun ≡ text ++ codes " ") (last : all ≡ begun ++ word) where
+  pub after_space : all ≡ text ++ (codes " " ++ word)
+  after_space = last ∙ ap (λ (l : List ℕ). l ++ word) (space (omega arith)) ∙ append_assoc text (codes " ") word
+
+  pub after_space-length : (n : ℕ) → length word ≤ n → length all ≤ length text + (n + 1)
+  after_space-length n short =
+      let whole : length all ≡ length text + suc (length word) = ap length after_space ∙ length-append text (codes " " ++ word) in
+      omega arith
 
 -- there is a byte
 pub filled : (bytes : List ℕ) (b : Bool) → b ≡ (length bytes == 0) → b ≡ false → 0 < length bytes

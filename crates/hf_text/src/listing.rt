@@ -248,7 +248,6 @@ fn give_refs<D: Desk>(refs: &Refs, page: &mut Page<Say>, desk: &mut D) -> Result
 }
 
 /// Gives the lines of an item's properties, and behind them those of its references.
-#[tactic(auto, using(hf_desk::proofs::Paging::gives_then, crate::proofs::Left::stops_there))]
 fn give_lists<D: Desk>(
     item: &Item<'_>,
     page: &mut Page<Say>,
