@@ -1,5 +1,5 @@
 -- Groups are read as they stand, and as they are written.
-use Rattle.std.proofs.Common.{◌≡◌, ℕ, ◌+◌, ◌≤◌, ◌<◌, ◌^◌, false, List, [], ◌∷◌, ◌++◌, length, ltb, eqb, ◌||◌, true, Result, Ok, Err, refl, sym, ap, subst, ◌∙◌, append_assoc, arith, inl, inr}
+use Rattle.std.proofs.Common.{◌≡◌, ℕ, ◌+◌, ◌≤◌, ◌<◌, ◌^◌, false, List, [], ◌∷◌, ◌++◌, length, ltb, eqb, ◌||◌, Result, Ok, Err, refl, sym, ap, subst, ◌∙◌, append_assoc, arith, inl, inr}
 use Rattle.std.specs.Prelude.{IsTrue, IfOk}
 use Rattle.std.specs.Global.{Vec}
 use Rattle.std.specs.List.{AllByRecursion, AllZip, flat_map}
@@ -25,7 +25,7 @@ use Rattle.hf_box.proofs.Lists.{boxes_read}
 use Rattle.hf_box.proofs.BoxLaws.{boxes_iff_frames, same_boxes}
 use Rattle.hf_box.proofs.TableLaws.{boxes_again, boxes_take, bodies}
 use Rattle.hf_links.specs.declared.grpl.Group.{Group as GroupView}
-use Rattle.hf_links.specs.Grpl.{Group, groups_of, IsGroup, group_ids, group_rows, IsGrpl, IsGrplWithin, group_at, with_group, grpl_at, group_body, grpl_body, IsWritable}
+use Rattle.hf_links.specs.Grpl.{Group, groups_of, IsGroup, group_ids, group_rows, IsGrpl, IsGrplWithin, group_at, new_group_at, with_group, grpl_at, group_body, grpl_body, IsWritable}
 use Rattle.hf_box.proofs.WrittenBoxes.{ids_written, placed, HasSize, placed-framed, placed-each, length-placed}
 
 abbrev id_of : Group → ℕ
@@ -151,18 +151,27 @@ grpl_take b groups fits e =
 
 -- ---- reading, as a loop does
 
-pub one_more : (rows : ℕ) (earlier : List Group) (b : BoxAt) (g : Group) → rows ≡ group_rows earlier → group_at rows b ≡ Ok g → has_id g.id (group_ids earlier) ≡ false → with_group earlier b ≡ Ok (earlier ++ g ∷ [])
-unfolding with_group
-one_more rows earlier b g same h new = rw (← same, h, new) refl
+-- ids were met as these groups have them
+abbrev pub AreMet : List ℕ → List Group → Type 0
+AreMet seen earlier = (q : ℕ) → has_id q seen ≡ has_id q (group_ids earlier)
 
-pub stops : (rows : ℕ) (earlier : List Group) (b : BoxAt) (fault : OpenFault) → rows ≡ group_rows earlier → Fails fault (group_at rows b) → Fails fault (with_group earlier b)
-unfolding with_group
-stops rows earlier b errors.NoMemory same h = tt
-stops rows earlier b (errors.Unfit e) same h = rw (← same, h) refl
+module _ (rows : ℕ) (earlier : List Group) (seen : List ℕ) (b : BoxAt) (same : rows ≡ group_rows earlier) (met : AreMet seen earlier) where
+  -- a new group is one more
+  with_read : (r : Result Group ReadRefusal) → (r >>= λ g. refuse_if (has_id g.id (group_ids earlier)) (DoubleGroup g.id) >>= λ new. Ok (earlier ++ g ∷ []))
+      ≡ ((r >>= λ g. refuse_if (has_id g.id seen) (DoubleGroup g.id) >>= λ new. Ok g) >>= λ g. Ok (earlier ++ g ∷ []))
+  with_read (Err e) = refl
+  with_read (Ok g) = rw (met g.id) (elim (cases_Bool (has_id g.id (group_ids earlier))) [ inl t ↦ rw t refl | inr f ↦ rw f refl ])
 
-pub met_again : (rows : ℕ) (earlier : List Group) (b : BoxAt) (g : Group) → rows ≡ group_rows earlier → group_at rows b ≡ Ok g → has_id g.id (group_ids earlier) ≡ true → with_group earlier b ≡ Err (DoubleGroup g.id)
-unfolding with_group
-met_again rows earlier b g same h old = rw (← same, h, old) refl
+  with_new : with_group earlier b ≡ (new_group_at rows seen b >>= λ g. Ok (earlier ++ g ∷ []))
+  unfolding with_group new_group_at
+  with_new = rw (← same) (with_read (group_at rows b))
+
+  pub one_more : (g : Group) → new_group_at rows seen b ≡ Ok g → with_group earlier b ≡ Ok (earlier ++ g ∷ [])
+  one_more g h = with_new ∙ rw h refl
+
+  pub stops : (fault : OpenFault) → Fails fault (new_group_at rows seen b) → Fails fault (with_group earlier b)
+  stops errors.NoMemory h = tt
+  stops (errors.Unfit e) h = with_new ∙ rw h refl
 
 -- the ids of groups, with one more
 pub has-push : (q : ℕ) (earlier : List Group) (g : Group) → has_id q (group_ids (earlier ++ g ∷ [])) ≡ (eqb g.id q || has_id q (group_ids earlier))

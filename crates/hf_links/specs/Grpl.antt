@@ -64,6 +64,12 @@ IsGrplWithin b groups = (r : IsGrpl b groups) × (length r.boxes ≤ BOXES) × (
 
 -- ---- the same, read from left to right
 
+-- the group of an inner box with these fields in front of its entities, read from the bytes behind them
+abbrev pub group_behind : BoxAt → ℕ → ℕ → ℕ → ℕ → List ℕ → Result Group ReadRefusal
+group_behind b version flags id count bytes = do
+  entities ← times (front 4 (BadRecord GRPL b.at)) count bytes
+  Ok (record { kind = b.kind; version = version; flags = flags; id = id; entities = entities.0; tail = entities.1 })
+
 -- the group of an inner box behind so many rows, or its fault, which has the place of that box
 unfoldable pub group_at : ℕ → BoxAt → Result Group ReadRefusal
 group_at rows b = do
@@ -73,6 +79,13 @@ group_at rows b = do
   few ← refuse_if (nat_lt ROWS (rows + 1 + count.0)) (TooLarge GRPL b.at)
   entities ← times (front 4 (BadRecord GRPL b.at)) count.0 count.1
   Ok (record { kind = b.kind; version = version.0.0; flags = version.0.1; id = id.0; entities = entities.0; tail = entities.1 })
+
+-- the same, where its id is none of these
+unfoldable pub new_group_at : ℕ → List ℕ → BoxAt → Result Group ReadRefusal
+new_group_at rows seen b = do
+  group ← group_at rows b
+  new ← refuse_if (has_id group.id seen) (DoubleGroup group.id)
+  Ok group
 
 -- the groups before, and that of an inner box, where it is a new one
 unfoldable pub with_group : List Group → BoxAt → Result (List Group) ReadRefusal

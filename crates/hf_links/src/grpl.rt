@@ -1,7 +1,8 @@
 //! `grpl`: GroupsListBox of ISO/IEC 14496-12.
 
-ghost use Rattle.std.specs.Prelude.{◌≡◌, ◌<◌, ◌≤◌, ◌+◌, ◌*◌, ◌^◌, ◌++◌, List, [], true, length, IfOk};
+ghost use Rattle.std.specs.Prelude.{◌≡◌, ◌<◌, ◌≤◌, ◌+◌, ◌*◌, ◌^◌, ◌++◌, ◌==◌, ◌||◌, ℕ, List, [], true, length, Err, IfOk, MatchResult};
 ghost use Rattle.std.specs.List.{flat_map};
+ghost use Rattle.hf_base.specs.Entries.{has_id};
 ghost use Rattle.hf_base.specs.Number.{num};
 ghost use Rattle.hf_base.specs.Reading.{Gives, MatchOpen};
 ghost use Rattle.hf_base.specs.declared.kinds.TheConstants.{GRPL};
@@ -12,7 +13,7 @@ ghost use Rattle.hf_box.specs.Tables.{boxes_from};
 ghost use Rattle.hf_desk.specs.Outside.{Outside};
 ghost use Rattle.hf_desk.specs.Calls.{Puts};
 ghost use Rattle.hf_desk.specs.Pages.{ByPut, Gives as GivesTo};
-ghost use Rattle.hf_links.specs.Grpl.{Group as Stated, IsGrplWithin, group_body, group_of, groups_of, group_at, with_group, grpl_at};
+ghost use Rattle.hf_links.specs.Grpl.{Group as Stated, IsGrplWithin, group_body, group_of, groups_of, group_at, group_behind, new_group_at, with_group, grpl_at};
 
 use crate::ids::{front_ids, give_ids};
 use hf_base::kinds::GRPL;
@@ -55,12 +56,21 @@ impl<'a> TryClone for Group<'a> {
     }
 }
 
-/// The group of an inner box (EntityToGroupBox), behind so many rows.
+/// What stands in front of the entities of a group.
+#[derive(Drop)]
+struct GroupFront {
+    version: u8,
+    flags: u32,
+    id: u32,
+    count: u32,
+}
+
+/// What stands in front of the entities in an inner box behind so many rows, and the bytes after it.
 #[tactic(auto, unfolding(crate::specs::Grpl::group_at))]
-fn group_in<'a>(alloc: Global, rows: usize, view: &BoxView<'a>) -> Result<Group<'a>, OpenFault>
+fn group_front<'a>(rows: usize, view: &BoxView<'a>) -> Result<(GroupFront, &'a [u8]), ReadRefusal>
     requires { rows ≤ ROWS }
-    ensures exact { Gives group_of result (group_at rows (box_of view.now)) }
-    ensures within { IfOk result (λ g. rows + 1 + length g.entities ≤ ROWS) }
+    ensures exact { MatchResult result (λ x. group_at rows (box_of view.now) ≡ group_behind (box_of view.now) x.0.version x.0.flags x.0.id x.0.count x.1.now) (λ fault. group_at rows (box_of view.now) ≡ Err fault) }
+    ensures within { IfOk result (λ x. rows + 1 + x.0.count ≤ ROWS) }
 {
     let at = view.at;
     let short = ReadRefusal::BadRecord { kind: GRPL, at };
@@ -68,17 +78,58 @@ fn group_in<'a>(alloc: Global, rows: usize, view: &BoxView<'a>) -> Result<Group<
     let (id, rest) = front32(rest, short)?;
     let (count, rest) = front32(rest, short)?;
     if rows + 1 + count as usize > ROWS {
-        return Err(OpenFault::Unfit(ReadRefusal::TooLarge { kind: GRPL, at }));
+        return Err(ReadRefusal::TooLarge { kind: GRPL, at });
     }
-    let (entities, tail) = front_ids(alloc, 4, count, rest, short)?;
-    Ok(Group {
-        kind: view.kind,
+    let front = GroupFront {
         version,
         flags,
         id,
+        count,
+    };
+    Ok((front, rest))
+}
+
+/// The group of an inner box (EntityToGroupBox), behind so many rows.
+fn group_in<'a>(alloc: Global, rows: usize, view: &BoxView<'a>) -> Result<Group<'a>, OpenFault>
+    requires { rows ≤ ROWS }
+    ensures exact { Gives group_of result (group_at rows (box_of view.now)) }
+    ensures within { IfOk result (λ g. rows + 1 + length g.entities ≤ ROWS) }
+{
+    let (front, rest) = group_front(rows, view)?;
+    let short = ReadRefusal::BadRecord {
+        kind: GRPL,
+        at: view.at,
+    };
+    let (entities, tail) = front_ids(alloc, 4, front.count, rest, short)?;
+    Ok(Group {
+        kind: view.kind,
+        version: front.version,
+        flags: front.flags,
+        id: front.id,
         entities,
         tail,
     })
+}
+
+/// The group of an inner box behind so many rows, whose id is met for the first time.
+#[tactic(auto, unfolding(crate::specs::Grpl::new_group_at))]
+fn new_group<'a>(
+    alloc: Global,
+    rows: usize,
+    seen: &mut SeenIds,
+    view: &BoxView<'a>,
+) -> Result<Group<'a>, OpenFault>
+    requires { rows ≤ ROWS }
+    ensures exact { Gives group_of result (new_group_at rows seen.old (box_of view.now)) }
+    ensures within { IfOk result (λ g. rows + 1 + length g.entities ≤ ROWS) }
+    ensures met { IfOk result (λ g. (other : ℕ) → has_id other seen.new ≡ (g.id == other) || has_id other seen.old) }
+{
+    let group = group_in(alloc, rows, view)?;
+    let id = group.id;
+    if seen.meet(id)? {
+        return Ok(group);
+    }
+    Err(OpenFault::Unfit(ReadRefusal::DoubleGroup { id }))
 }
 
 /// The groups of all these boxes.
@@ -89,11 +140,7 @@ fn groups_in<'a>(alloc: Global, mut boxes: InnerBoxes<'a>) -> Result<Vec<Group<'
     let mut seen = SeenIds::new(alloc);
     let mut rows = 0;
     while let Some(view) = boxes.next() {
-        let group = group_in(alloc, rows, &view)?;
-        let id = group.id;
-        if !seen.meet(id)? {
-            return Err(OpenFault::Unfit(ReadRefusal::DoubleGroup { id }));
-        }
+        let group = new_group(alloc, rows, &mut seen, &view)?;
         rows += 1 + group.entities.len();
         groups.push(group)?;
     }
