@@ -1,4 +1,4 @@
-use Rattle.std.proofs.Common.{arith, rules, ap, ◌∙◌, ◌≡◌, ◌-◌, ◌^◌, ◌<◌, ℕ, List, Some, min, length, get_or}
+use Rattle.std.proofs.Common.{arith, ap, ◌∙◌, ◌≡◌, ◌-◌, ◌^◌, ◌<◌, ℕ, List, Some, min, length, get_or}
 use Rattle.std.specs.Prelude.{slice_get}
 use Rattle.std.proofs.Math.ListN.{length-set}
 use Rattle.std.proofs.lemmas.List.{length-map}
@@ -9,11 +9,8 @@ use Rattle.hf_extent.specs.Known.{size_by}
 use Rattle.hf_extent.proofs.PlaceLaws.{length_at}
 use Rattle.hf_extent.proofs.OrderLaws.{AreNamed}
 use Rattle.hf_extent.proofs.SeenLaws.{seen_at}
-use Rattle.hf_extent.proofs.TotalLaws.{knows_none, knows_more, size_known, knows_all}
+use Rattle.hf_extent.proofs.TotalLaws.{knows_more, size_known, knows_all}
 use Rattle.hf_extent.proofs.sizes.sizes.Goals as goal
-
-pub loop-at-init : goal.loop-at-init
-loop-at-init c = record { count = search rules; knows = knows_none _ _ _ }
 
 pub loop-at-preserved : goal.loop-at-preserved
 loop-at-preserved c =
