@@ -13,7 +13,6 @@ loop-extent-preserved c =
     c.loop-extent.invariant c.loop-extent-test.true
     (c.in_ok-add_link.ensures ∙ ap (λ (o : Option ℕ). c.loop-extent.pairs.items ++ option_to_list (option_map (λ (k : ℕ). (c.args.i, k)) o)) c.source-place.ensures.value)
 
-
 pub loop-extent-init : goal.loop-extent-init
 loop-extent-init c = sym (append-nil c.args.pairs.now.items)
 
@@ -22,6 +21,3 @@ returns-then-item-ne2 c = sym (ap (λ l. c.args.pairs.now.items ++ l) (no_links 
 
 pub returns : goal.returns
 returns c = links_of_extents c.args.ids.now c.args.i c.loop-extent.extent-index (item_seen c.args.item.now) c.args.pairs.now.items c.loop-extent.pairs.items c.loop-extent.invariant c.loop-extent-test.false c.if-item-ne2.false
-
-
-
