@@ -74,3 +74,28 @@ pub fn desk_of(alloc: Global, files: &Files) -> Result<MemoryDesk, Stop>
     }
     Ok(desk)
 }
+
+/// Which call of a desk fails, and how many bytes it takes at most in one, stated as `3 10`.
+#[derive(Clone, Copy)]
+struct Failing {
+    call: u64,
+    most: usize,
+}
+
+fn failing_of(text: &str) -> Result<Failing, Stop> {
+    let (call, most) = text.split_once(' ').ok_or(Stop::Row)?;
+    let call: u64 = call.parse().ok().ok_or(Stop::Row)?;
+    let most: usize = most.parse().ok().ok_or(Stop::Row)?;
+    Ok(Failing { call, most })
+}
+
+/// A desk with these files, whose call with a number fails, and that takes at most so many bytes in a call.
+pub fn failing_desk(alloc: Global, files: &Files, text: &str) -> Result<MemoryDesk, Stop>
+    ensures { IfOk result (λ d. (memory_outside d).creating ≡ false) }
+{
+    let failing = failing_of(text)?;
+    let mut desk = desk_of(alloc, files)?;
+    desk.take_at_most(failing.most.max(1));
+    desk.fail(failing.call)?;
+    Ok(desk)
+}

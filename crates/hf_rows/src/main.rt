@@ -3,12 +3,16 @@
 //! the program wrote.
 #![tactic(auto)]
 
+ghost use Rattle.std.specs.Prelude.{◌≡◌, false};
+ghost use Rattle.hf_desk.specs.Memory.{memory_outside};
+
 mod files;
 mod stop;
 
-use crate::files::{Files, bytes_of, desk_of, name_of};
+use crate::files::{Files, bytes_of, desk_of, failing_desk, name_of};
 use crate::stop::Stop;
 use hf_app::{Outcome, line_of, run, status};
+use hf_desk::MemoryDesk;
 use std::alloc::Global;
 use std::collections::BTreeMap;
 use std::process::ExitCode;
@@ -53,19 +57,42 @@ fn words_of(alloc: Global, text: &str) -> Result<Vec<String>, Stop> {
     Ok(words)
 }
 
-/// Runs a command over the files, and prints what comes of it. Where a file is made, it is given.
-fn run_row(rt: &HostRuntime, files: &Files, words: &str) -> Result<Option<Vec<u8>>, Stop> {
-    let alloc = rt.alloc();
-    println!(rt; "> {words}")?;
-    let mut desk = desk_of(alloc, files)?;
-    let outcome = run(alloc, &words_of(alloc, words)?, &mut desk);
+/// Runs a command over a desk, and prints how it ended and what was said. Where a file is made, it is given.
+fn run_over(rt: &HostRuntime, mut desk: MemoryDesk, words: &str) -> Result<Option<Vec<u8>>, Stop>
+    requires { (memory_outside desk).creating ≡ false }
+{
+    let outcome = run(rt.alloc(), &words_of(rt.alloc(), words)?, &mut desk);
     print_outcome(rt, &outcome)?;
     print_said(rt, desk.said())?;
-    let made = desk.into_made();
+    Ok(desk.into_made())
+}
+
+/// Runs a command over the files, and prints what comes of it. Where a file is made, it is given.
+fn run_row(rt: &HostRuntime, files: &Files, words: &str) -> Result<Option<Vec<u8>>, Stop> {
+    println!(rt; "> {words}")?;
+    let made = run_over(rt, desk_of(rt.alloc(), files)?, words)?;
     if let Some(made) = &made {
         print_made(rt, files, made)?;
     }
     Ok(made)
+}
+
+/// Prints the bytes that were made.
+fn print_digits(rt: &HostRuntime, made: &[u8]) -> Result<(), Stop> {
+    let digits = hex::encode(rt.alloc(), made)?;
+    println!(rt; "made {digits}")?;
+    Ok(())
+}
+
+/// Runs a command over a desk whose call with a number fails, and prints the bytes that were made all the same.
+fn fail_row(rt: &HostRuntime, files: &Files, row: &str) -> Result<(), Stop> {
+    println!(rt; "fail {row}")?;
+    let (calls, words) = row.split_once(" > ").ok_or(Stop::Row)?;
+    let desk = failing_desk(rt.alloc(), files, calls)?;
+    if let Some(made) = run_over(rt, desk, words)? {
+        print_digits(rt, &made)?;
+    }
+    Ok(())
 }
 
 /// Runs a command, whose file is kept under a name.
@@ -87,6 +114,37 @@ fn name_row(rt: &HostRuntime, files: &mut Files, row: &str) -> Result<(), Stop> 
     Ok(())
 }
 
+/// Adds the bytes of a file beside the rows.
+fn read_row(rt: &HostRuntime, files: &mut Files, file: &str) -> Result<(), Stop> {
+    let bytes = fs::read(rt, file)?;
+    files.insert(String::from_str(rt.alloc(), file)?, bytes)?;
+    Ok(())
+}
+
+/// Adds the bytes of these pieces to those of a name.
+fn add_pieces(alloc: Global, files: &mut Files, name: &str, pieces: &str) -> Result<(), Stop> {
+    let bytes = bytes_of(alloc, files, pieces)?;
+    let file = files.get_mut(name).ok_or(Stop::Row)?;
+    file.extend_from_slice(&bytes)?;
+    Ok(())
+}
+
+/// Runs a row that names no bytes by itself.
+fn run_line(rt: &HostRuntime, files: &mut Files, line: &str) -> Result<(), Stop> {
+    if let Some(file) = line.strip_prefix("read ") {
+        read_row(rt, files, file)?;
+    } else if let Some(words) = line.strip_prefix("> ") {
+        let _ = run_row(rt, files, words)?;
+    } else if let Some(row) = line.strip_prefix("keep ") {
+        keep_row(rt, files, row)?;
+    } else if let Some(row) = line.strip_prefix("fail ") {
+        fail_row(rt, files, row)?;
+    } else if line.starts_with('#') {
+        println!(rt; "{line}")?;
+    }
+    Ok(())
+}
+
 /// Reads the rows in order. Lines that begin with two spaces go on with the bytes of the name before them.
 fn run_rows(rt: &HostRuntime) -> Result<(), Stop> {
     let text = fs::read_to_string(rt, "rows.txt")?;
@@ -94,21 +152,12 @@ fn run_rows(rt: &HostRuntime) -> Result<(), Stop> {
     let mut name = "";
     for line in text.as_str().lines() {
         if let Some(pieces) = line.strip_prefix("  ") {
-            let bytes = bytes_of(rt.alloc(), &files, pieces)?;
-            let file = files.get_mut(name).ok_or(Stop::Row)?;
-            file.extend_from_slice(&bytes)?;
+            add_pieces(rt.alloc(), &mut files, name, pieces)?;
         } else if let Some(row) = line.strip_prefix("bytes ") {
             name = row;
             name_row(rt, &mut files, row)?;
-        } else if let Some(file) = line.strip_prefix("read ") {
-            let bytes = fs::read(rt, file)?;
-            files.insert(String::from_str(rt.alloc(), file)?, bytes)?;
-        } else if let Some(words) = line.strip_prefix("> ") {
-            let _ = run_row(rt, &files, words)?;
-        } else if let Some(row) = line.strip_prefix("keep ") {
-            keep_row(rt, &mut files, row)?;
-        } else if line.starts_with('#') {
-            println!(rt; "{line}")?;
+        } else {
+            run_line(rt, &mut files, line)?;
         }
     }
     Ok(())

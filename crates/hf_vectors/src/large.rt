@@ -84,15 +84,3 @@ fn offsets_take_eight_bytes_from_2_32_on(rt: HostRuntime) -> Result<(), Fail> {
     }
     Ok(())
 }
-
-#[test]
-fn the_boxes_of_a_large_file_are_said(rt: HostRuntime) -> Result<(), Fail> {
-    let mut file = shared(rt.alloc())?;
-    put_items(&mut file, rt.alloc(), 3000, RANGE)?;
-    let mut desk = CountingDesk::new();
-    desk.add("a", &file);
-    let words = words_of(rt.alloc(), &["boxes", "a"])?;
-    assert!(rt; matches!(run(rt.alloc(), &words, &mut desk), Outcome::Done));
-    assert_eq!(rt; desk.said_len(), 130);
-    Ok(())
-}

@@ -1,9 +1,9 @@
-//! Commands over files whose devices fail, that are cut off, and that are large, as tests over `hf_app::run`, and lines that
-//! no row shows. Worked rows of the commands are those of `hf_rows`.
+//! What no worked row of `hf_rows` can say, as tests: files of 4 GiB, lines that no small file brings about, and lists that
+//! are copied.
 #![tactic(auto)]
 
 #[cfg(test)]
-mod failing;
+mod copies;
 #[cfg(test)]
 mod large;
 #[cfg(test)]
@@ -12,5 +12,3 @@ mod lines;
 mod making;
 #[cfg(test)]
 mod parts;
-#[cfg(test)]
-mod refused;

@@ -1,11 +1,5 @@
-//! Files and words for the rows.
+//! Boxes and words for the tests.
 
-ghost use Rattle.std.specs.Prelude.{◌≡◌, ◌<◌, length, IfOk, false};
-ghost use Rattle.hf_desk.specs.Memory.{memory_outside};
-
-use crate::parts::ONE;
-use hf_app::run;
-use hf_desk::MemoryDesk;
 use std::alloc::Global;
 use std::test::Fail;
 
@@ -44,38 +38,4 @@ pub fn put_info(infos: &mut Vec<u8>, id: u16) -> Result<(), Fail> {
         b"infe",
         &[b"\x02\0\0\0", &id.to_be_bytes(), b"\0\0hvc1\0"],
     )
-}
-
-/// A file with these bytes in an `mdat` at 24, and a `meta` of these boxes behind it.
-pub fn file_of(alloc: Global, data: &[u8], boxes: &[&[u8]]) -> Result<Vec<u8>, Fail> {
-    let mut inner = Vec::from_slice(alloc, b"\0\0\0\0")?;
-    for b in boxes {
-        inner.extend_from_slice(b)?;
-    }
-    let mut file = Vec::from_slice(alloc, &ONE[..24])?;
-    put_box(&mut file, b"mdat", &[data])?;
-    put_box(&mut file, b"meta", &[&inner])?;
-    Ok(file)
-}
-
-/// A file with its name.
-pub type Named<'a> = (&'a str, &'a [u8]);
-
-/// A desk with these files.
-pub fn desk_of(alloc: Global, files: &[Named]) -> Result<MemoryDesk, Fail>
-    ensures { IfOk result (λ d. (memory_outside d).creating ≡ false) }
-{
-    let mut desk = MemoryDesk::new(alloc);
-    for (name, bytes) in files {
-        desk.add(name, bytes)?;
-    }
-    Ok(desk)
-}
-
-/// The file that a command over these files makes; no bytes where it makes none.
-pub fn made_by(alloc: Global, files: &[Named], words: &[&str]) -> Result<Vec<u8>, Fail> {
-    let mut desk = desk_of(alloc, files)?;
-    let words = words_of(alloc, words)?;
-    run(alloc, &words, &mut desk);
-    Ok(desk.into_made().unwrap_or(Vec::new(alloc)))
 }
