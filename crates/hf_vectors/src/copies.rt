@@ -33,7 +33,7 @@ fn extents_are_copied(alloc: Global) -> Result<bool, NoMemory> {
 
 fn props_are_copied(alloc: Global) -> Result<bool, NoMemory> {
     let copy = copy_of(alloc, turn(3), mirror(0))?;
-    Ok(copy.as_slice() == [turn(3), mirror(0)].as_slice())
+    Ok(copy.get(0).copy() == turn(3) && copy.get(1).copy() == mirror(0))
 }
 
 /// The associations of an item with properties 1 and 2.
