@@ -11,6 +11,7 @@ pub mod Limits
 pub mod Makes
 pub mod Members
 pub mod Named
+pub mod NamedMeta
 pub mod NextId
 pub mod PictureSize
 pub mod Reshaped

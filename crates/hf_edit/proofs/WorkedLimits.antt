@@ -15,15 +15,16 @@ use Rattle.hf_table.specs.Table.{table}
 use Rattle.hf_prop.specs.Views.{turn_by}
 use Rattle.hf_worked.specs.LargeStores.{named, picture_of}
 use Rattle.hf_worked.specs.LimitStores.{holder, holders}
-use Rattle.hf_worked.specs.WorkedStores.{one_picture, plain}
+use Rattle.hf_worked.specs.WorkedStores.{one_empty_item, one_picture, plain}
 use Rattle.hf_worked.proofs.LargeStores.{named_len}
 use Rattle.hf_worked.proofs.Holders.{kind, holders-table, holders-distinct}
 use Rattle.std.proofs.lemmas.List.FromFn.{length-map-range_with_len}
+use Rattle.hf_edit.proofs.NamedMeta.{with_exif, with_thumbnail, with_xmp}
 use Rattle.hf_edit.specs.Additions.{exif_item, greatest_id, next_id_of, thumbnail_item, xmp_item}
 use Rattle.hf_edit.specs.Edits.{Edit, AddExif, AddXmp, Mirror, Rotate, Thumb, fills_body, fills_ids, fills_items, fills_kinds, fills_meta, is_absent, item_is, is_metadata, is_minor, names_none, pictures_metadata, primary_is, raises_minor, step, takes_derived, when, ◌or_else◌, why}
 use Rattle.hf_edit.specs.Pictures.{mirrored, rotated}
 use Rattle.hf_edit.specs.Worked.{greatest_beside, imir, irot}
-use Rattle.hf_edit.specs.WorkedLimits.{crowd, full_beside, holder_beside, named_picture, named_with, BodyBeforeMeta, BodyFits, BodyIsFull, IdsBeforeBody, ItemsFit, ItemsAreFull, KindsAreFull, KindsBeforeItems, KindsFit, MetaFits, MetaIsFull, PropsBeforeKinds}
+use Rattle.hf_edit.specs.WorkedLimits.{crowd, full_beside, holder_beside, named_picture, named_with, AdditionsFillMeta, AdditionsFitMeta, BodyBeforeMeta, BodyFits, BodyIsFull, IdsBeforeBody, ItemsFit, ItemsAreFull, KindsAreFull, KindsBeforeItems, KindsFit, MetaFits, MetaIsFull, PropsBeforeKinds}
 
 -- a reason that does not hold, and one that does
 passed : (test : Bool) (reason : Reason) (rest answer : Option Reason) → test ≡ false → rest ≡ answer → (when test reason or_else rest) ≡ answer
@@ -295,6 +296,21 @@ turned_meta_full name many few =
 
 pub meta_is_full : MetaIsFull
 meta_is_full = (mirrored_full, turned_meta_full)
+
+pub additions_fit_meta : AdditionsFitMeta
+additions_fit_meta = (
+  λ name few. le-ltb 1073741824 _ (omega (arith, few, with_exif name (length name) refl (omega (arith, few)))),
+  λ name few. le-ltb 1073741824 _ (omega (arith, few, with_xmp name (length name) refl (omega (arith, few)))),
+  λ name few. le-ltb 1073741824 _ (omega (arith, few, with_thumbnail name (length name) refl (omega (arith, few)))),
+)
+
+pub additions_fill_meta : AdditionsFillMeta
+unfolding named_picture one_empty_item table_of next_id_of body_sum
+additions_fill_meta = (
+  λ name many few. told (fills_meta (named_picture name []) (AddExif 1 [])) reasons.MetaFull _ (lt-ltb 1073741824 _ (omega (arith, many, with_exif name (length name) refl few))),
+  λ name many few. told (fills_meta (named_picture name []) (AddXmp 1 [])) reasons.MetaFull _ (lt-ltb 1073741824 _ (omega (arith, many, with_xmp name (length name) refl few))),
+  λ name many few. told (fills_meta (named_picture name []) (Thumb 1 one_empty_item)) reasons.MetaFull _ (lt-ltb 1073741824 _ (omega (arith, many, with_thumbnail name (length name) refl few))),
+)
 
 named_body : (name bytes : List ℕ) → body_sum (step (named_picture name bytes) (AddExif 1 [])).items ≡ length bytes + 4
 unfolding named_picture body_sum

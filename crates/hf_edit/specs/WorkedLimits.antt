@@ -5,7 +5,7 @@ use Rattle.hf_store.specs.Store.{Held, ItemStore}
 use Rattle.hf_store.specs.declared.reason.Reason.TheVariants.{BodyFull, IdsFull, ItemsFull, KindsFull, MetaFull, PropsFull}
 use Rattle.hf_worked.specs.LargeStores.{picture_of}
 use Rattle.hf_worked.specs.LimitStores.{holder, holders}
-use Rattle.hf_worked.specs.WorkedStores.{four_by_four, heic, one_picture, plain}
+use Rattle.hf_worked.specs.WorkedStores.{four_by_four, heic, one_empty_item, one_picture, plain}
 use Rattle.hf_edit.specs.Edits.{AddExif, AddXmp, Mirror, Rotate, Thumb, fills_body, fills_items, fills_kinds, fills_meta, why}
 use Rattle.hf_edit.specs.Worked.{greatest_beside, imir, irot, picture}
 
@@ -99,6 +99,19 @@ MetaIsFull =
 -- a picture with a name and bytes
 unfoldable pub named_picture : List ℕ → List ℕ → ItemStore
 named_picture name bytes = record { brands = heic; primary = 1; items = record (plain 1 "hvc1" bytes) { name = name } ∷ []; groups = [] }
+
+-- and an item that comes beside it: the box has 213, 209 and 189 bytes beside the name
+abbrev pub AdditionsFitMeta : Type 0
+AdditionsFitMeta =
+    ((name : List ℕ) → length name ≤ 1073741611 → fills_meta (named_picture name []) (AddExif 1 []) ≡ false)
+    × ((name : List ℕ) → length name ≤ 1073741615 → fills_meta (named_picture name []) (AddXmp 1 []) ≡ false)
+    × ((name : List ℕ) → length name ≤ 1073741635 → fills_meta (named_picture name []) (Thumb 1 one_empty_item) ≡ false)
+
+abbrev pub AdditionsFillMeta : Type 0
+AdditionsFillMeta =
+    ((name : List ℕ) → 1073741611 < length name → length name < 2 ^ 31 → why (named_picture name []) (AddExif 1 []) ≡ Some MetaFull)
+    × ((name : List ℕ) → 1073741615 < length name → length name < 2 ^ 31 → why (named_picture name []) (AddXmp 1 []) ≡ Some MetaFull)
+    × ((name : List ℕ) → 1073741635 < length name → length name < 2 ^ 31 → why (named_picture name []) (Thumb 1 one_empty_item) ≡ Some MetaFull)
 
 -- too many bytes are told first, however long the name is
 abbrev pub BodyBeforeMeta : Type 0

@@ -10,7 +10,7 @@ ghost use Rattle.hf_edit.specs.Additions.{next_id_of};
 ghost use Rattle.hf_edit.specs.Edits.{AddExif, AddXmp, Crop, Drop, Hide, Mirror, Primary, Remove, Rotate, Show, Thumb, step, why};
 ghost use Rattle.hf_edit.specs.Pictures.{picture_size_of};
 ghost use Rattle.hf_edit.specs.Worked.{clap, derived, four_by_two, greatest_beside, group_of_id, hidden_metadata, hidden_second, holding, imir, irot, ispe, metadata_thumbnail, optional_turn, pair_unsized, pair_with, pair_with_exif, pair_with_xmp, photograph_with, picture, second_as_thumbnail, second_primary, second_with_thumbnail, three_by_five, turn};
-ghost use Rattle.hf_edit.specs.WorkedLimits.{BodyBeforeMeta, BodyFits, BodyIsFull, IdsBeforeBody, ItemsAreFull, ItemsFit, KindsAreFull, KindsBeforeItems, KindsFit, MetaFits, MetaIsFull, PropsBeforeKinds};
+ghost use Rattle.hf_edit.specs.WorkedLimits.{AdditionsFillMeta, AdditionsFitMeta, BodyBeforeMeta, BodyFits, BodyIsFull, IdsBeforeBody, ItemsAreFull, ItemsFit, KindsAreFull, KindsBeforeItems, KindsFit, MetaFits, MetaIsFull, PropsBeforeKinds};
 
 /// An item goes unless it is not there, is the primary, or is needed by another one; the first of
 /// these reasons is given.
@@ -272,4 +272,6 @@ pub fn limits_are_told()
     ensures body_before_meta { BodyBeforeMeta }
     ensures meta { MetaFits }
     ensures too_long_meta { MetaIsFull }
+    ensures added_meta { AdditionsFitMeta }
+    ensures too_long_added_meta { AdditionsFillMeta }
 {}

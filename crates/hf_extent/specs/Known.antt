@@ -28,8 +28,15 @@ extent_by len inner ids sizes r e = if e.length == 0 then source_by len inner id
 abbrev pub size_by : ℕ → ℕ → List ℕ → List ℕ → Located → ℕ
 size_by len inner ids sizes r = sum (map (extent_by len inner ids sizes r) r.extents)
 
+-- the bytes of the item that an extent names, and what it takes of them
+abbrev pub named_bytes : List ℕ → List (List ℕ) → Located → Extent → Option (List ℕ)
+named_bytes ids bodies r e = option_and_then (slice_get bodies) (place_of ids r e)
+
+abbrev pub named_piece : List ℕ → List (List ℕ) → Located → Extent → Option (List ℕ)
+named_piece ids bodies r e = piece_of r.base e (named_bytes ids bodies r e)
+
 abbrev pub piece_by : List ℕ → Option (List ℕ) → List ℕ → List (List ℕ) → Located → Extent → Option (List ℕ)
-piece_by F idat ids bodies r e = piece_of r.base e (by_method r.method (Some F) idat (option_and_then (slice_get bodies) (place_of ids r e)))
+piece_by F idat ids bodies r e = piece_of r.base e (by_method r.method (Some F) idat (named_bytes ids bodies r e))
 
 abbrev pub bytes_by : List ℕ → Option (List ℕ) → List ℕ → List (List ℕ) → Located → Option (List ℕ)
 bytes_by F idat ids bodies r = joined_pieces (map (piece_by F idat ids bodies r) r.extents)

@@ -1,13 +1,13 @@
 //! The bytes of items where they lie, each found once, in an order of the items.
 
-ghost use Rattle.std.specs.Option.{option_and_then, option_copied, ForSome};
-ghost use Rattle.std.specs.Prelude.{◌≡◌, ◌<◌, ◌+◌, ◌++◌, ◌≤◌, ◌^◌, IfOk, OnOk, Ok, Some, IsSome, IfSome, length, map, slice_get};
+ghost use Rattle.std.specs.Option.{option_copied, ForSome};
+ghost use Rattle.std.specs.Prelude.{◌≡◌, ◌<◌, ◌+◌, ◌++◌, ◌≤◌, ◌^◌, IfOk, OnOk, Ok, Some, IsSome, IfSome, length, map};
 ghost use Rattle.hf_base.specs.BytesOf.{piece_of};
 ghost use Rattle.hf_base.specs.LocationFaults.{locations_fault};
 ghost use Rattle.hf_base.specs.Members.{Rises};
 ghost use Rattle.hf_extent.specs.Bodies.{AreBytesOf};
-ghost use Rattle.hf_extent.specs.Known.{piece_by, bytes_by};
-ghost use Rattle.hf_extent.specs.Places.{AreAt, links_from, place_of};
+ghost use Rattle.hf_extent.specs.Known.{named_piece, piece_by, bytes_by};
+ghost use Rattle.hf_extent.specs.Places.{AreAt, links_from};
 ghost use Rattle.hf_extent.specs.Seen.{item_seen, items_seen};
 ghost use Rattle.hf_order.specs.Order.{IsOrder};
 ghost use Rattle.hf_pieces.specs.Bytes.{joined};
@@ -64,9 +64,9 @@ fn add_named<'a>(
 ) -> Result<(), NoMemory>
     requires rising { Rises ◌<◌ ids.now }
     requires known { length bodies.now ≡ length ids.now }
-    requires there { IsSome (piece_of item.now.base extent.now (option_and_then (slice_get (map joined bodies.now)) (place_of ids.now (item_seen item.now) extent.now))) }
-    requires room { ForSome (piece_of item.now.base extent.now (option_and_then (slice_get (map joined bodies.now)) (place_of ids.now (item_seen item.now) extent.now))) (λ p. length (joined pieces.old) + length p ≤ 2 ^ 62) }
-    ensures { IfSome (piece_of item.now.base extent.now (option_and_then (slice_get (map joined bodies.now)) (place_of ids.now (item_seen item.now) extent.now))) (λ p. OnOk result (joined pieces.new ≡ joined pieces.old ++ p)) }
+    requires there { IsSome (named_piece ids.now (map joined bodies.now) (item_seen item.now) extent.now) }
+    requires room { ForSome (named_piece ids.now (map joined bodies.now) (item_seen item.now) extent.now) (λ p. length (joined pieces.old) + length p ≤ 2 ^ 62) }
+    ensures { IfSome (named_piece ids.now (map joined bodies.now) (item_seen item.now) extent.now) (λ p. OnOk result (joined pieces.new ≡ joined pieces.old ++ p)) }
 {
     match source(ids, item, extent) {
         Some(at) => add_cut(pieces, &bodies[at], item.base, extent),

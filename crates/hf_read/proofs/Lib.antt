@@ -29,5 +29,4 @@ pub mod StoreFaults
 pub mod StoreLaws
 pub mod TableParts
 pub mod TopLevelLaws
-pub mod ValidRead
 pub mod WalkLaws

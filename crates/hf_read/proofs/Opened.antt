@@ -33,6 +33,11 @@ use Rattle.hf_read.specs.Rising.{by_rising}
 use Rattle.hf_read.specs.TopLevel.{first_fault, has_brand, brands_at, top_of, parts_of}
 use Rattle.hf_read.specs.Walks.{walkers, first_walker}
 
+-- up to the checks of the store
+unfoldable pub reads_unchecked : Unit {0}
+unfolding bytes_of ends leaves_of size_of entries_from over external_fault bad_method_fault zero_length_fault no_idat_fault bad_index_fault loc_cycle_fault out_of_file_fault out_of_idat_fault too_scattered_fault out_of_item_fault too_many_bytes_fault locations_fault num number front front_bytes front_four front_full times cut box_at frames_within box_len box_head box head_len boxes_from children_at ftyp_at ftyp_body handler_at hdlr_at hdlr_body id_at pitm_at pitm_body infe_at infe_body with_infe iinf_at iinf_body group_at with_group grpl_at group_body grpl_body ref_box_at with_ref_box iref_at reference_body iref_body index_at extent_at fields_at loc_at widths_at iloc_within iloc_entry iloc_body loc_entry_at loc_counted_at pick_at assoc_at entry_at counted_at with_ipma ipma_entry ipma_body at_most_one props_at iprp_within ipco_body iprp_body is_wide box_if_any bytes_in meta_front meta_body laid table_of body_sum meta_len no_primary_fault dangling_need_fault bad_property_fault bad_derived_fault derive_cycle_fault derived_fault too_many_items_fault too_many_links_fault meta_too_long_fault limits_fault kept_refs kept_props kept_groups store_at tables_at reading_parts reading fault_of by_rising first_fault has_brand brands_at top_of parts_of walkers first_walker
+reads_unchecked = tt
+
 unfoldable pub reads : Unit {0}
-unfolding bytes_of ends leaves_of size_of entries_from over external_fault bad_method_fault zero_length_fault no_idat_fault bad_index_fault loc_cycle_fault out_of_file_fault out_of_idat_fault too_scattered_fault out_of_item_fault too_many_bytes_fault locations_fault num number front front_bytes front_four front_full times cut box_at frames_within box_len box_head box head_len boxes_from children_at ftyp_at ftyp_body handler_at hdlr_at hdlr_body id_at pitm_at pitm_body infe_at infe_body with_infe iinf_at iinf_body group_at with_group grpl_at group_body grpl_body ref_box_at with_ref_box iref_at reference_body iref_body index_at extent_at fields_at loc_at widths_at iloc_within iloc_entry iloc_body loc_entry_at loc_counted_at pick_at assoc_at entry_at counted_at with_ipma ipma_entry ipma_body at_most_one props_at iprp_within ipco_body iprp_body is_wide box_if_any bytes_in meta_front meta_body laid table_of body_sum meta_len no_primary_fault dangling_need_fault bad_property_fault bad_derived_fault derive_cycle_fault derived_fault too_many_items_fault too_many_links_fault meta_too_long_fault limits_fault kept_refs kept_props kept_groups store_at tables_at checked reading_parts reading fault_of by_rising first_fault has_brand brands_at top_of parts_of walkers first_walker
+unfolding reads_unchecked checked
 reads = tt

@@ -12,7 +12,8 @@ use Rattle.hf_store.specs.Store.{Item, ItemStore, ids_of}
 use Rattle.hf_store.specs.LimitFaults.{limits_fault}
 use Rattle.hf_store.specs.Valid.{IsGoodRef, IsGoodItem, Valid}
 use Rattle.hf_read.specs.Denotes.{Denotes, IsWithin, DenotesWithin}
-use Rattle.hf_read.specs.Reading.{idat_of, store_at, reading, fault_in, fault_of}
+use Rattle.hf_read.specs.Faults.{derived_fault}
+use Rattle.hf_read.specs.Reading.{idat_of, store_at, checked, reading, fault_in, fault_of}
 use Rattle.hf_read.specs.Tables.{item_ids, infos_by_id}
 use Rattle.hf_read.proofs.FirstFaults.{fine}
 use Rattle.hf_read.proofs.ItemLaws.{ids_zip, zip_items, are_placed}
@@ -92,6 +93,9 @@ keeps_limits s valid = record {
   meta = valid.meta;
 }
 
+pub derives : (s : ItemStore) → Valid s → derived_fault s.items ≡ fine
+derives s valid = derived_fine s.items (rises_from 0 (ids_of s.items) valid.ids_rise) (lead_to_items LINKS s.items (good_item s valid)) (λ i h. (good_item s valid i h).fits) valid.ends
+
 tables_are : (F : List ℕ) (s : ItemStore) (d : Denotes F s) → IsWithin F s d → AreTables d.parts s.primary d.tables
 tables_are F s d w = record {
   infos = w.infos;
@@ -130,7 +134,7 @@ within_read F s (d, w) = record {
   are_tables = tables_are F s d w;
   placed = are_placed F (idat_of d.parts) d.tables s.items d.items w.leaves d.valid.body;
   is = store_is F s d;
-  derived = derived_fine s.items (rises_from 0 (ids_of s.items) d.valid.ids_rise) (lead_to_items LINKS s.items (good_item s d.valid)) (λ i h. (good_item s d.valid i h).fits) d.valid.ends;
+  derived = derives s d.valid;
 }
 
 -- ---- the laws
@@ -140,6 +144,11 @@ reading_denotes F s fits small = (
   (λ d. read_again F s (within_read F s d) (limits_fine s (keeps_limits s d.0.valid))),
   (λ h. let r = is_read F s fits h in read_within F s small r.0 r.1),
 )
+
+-- the checks pass a valid store, so that a file is computed up to them: the limits take longest
+pub read_valid : (F : List ℕ) (s : ItemStore) → Valid s → reading F ≡ checked s → reading F ≡ Ok s
+unfolding checked
+read_valid F s valid h = h ∙ rw (derives s valid, limits_fine s (keeps_limits s valid)) refl
 
 no_fault_read : (r : Result ItemStore ReadRefusal) → fault_in r ≡ None → (s : ItemStore) × (r ≡ Ok s)
 no_fault_read (Ok s) h = (s, refl)

@@ -1,18 +1,18 @@
 use Rattle.std.proofs.Common.{arith, subst, sym, ◌≡◌, ◌+◌, ◌≤◌, ◌^◌, ◌++◌, ℕ, List, Option, Some, length, map}
-use Rattle.std.specs.Prelude.{slice_get, IsSome, OnOk, IfSome}
-use Rattle.std.specs.Option.{option_and_then, ForSome}
+use Rattle.std.specs.Prelude.{IsSome, OnOk, IfSome}
+use Rattle.std.specs.Option.{ForSome}
 use Rattle.hf_base.specs.BytesOf.{piece_of}
 use Rattle.hf_pieces.specs.Bytes.{joined}
-use Rattle.hf_extent.specs.Places.{place_of}
+use Rattle.hf_extent.specs.Known.{named_bytes}
 use Rattle.hf_extent.specs.Seen.{item_seen}
 use Rattle.hf_extent.proofs.BodyLaws.{body_at}
 use Rattle.hf_extent.proofs.bodies.add_named.Goals as goal
 use Rattle.hf_extent.proofs.bodies.add_named.Goals.{After-index-bodies-at, After-add_cut}
 
-named : (c : After-index-bodies-at) → option_and_then (slice_get (map joined c.args.bodies.now)) (place_of c.args.ids.now (item_seen c.args.item.now) c.args.extent.now) ≡ Some (joined c.index-bodies-at.result)
+named : (c : After-index-bodies-at) → named_bytes c.args.ids.now (map joined c.args.bodies.now) (item_seen c.args.item.now) c.args.extent.now ≡ Some (joined c.index-bodies-at.result)
 named c = body_at c.args.ids.now c.args.bodies.now (item_seen c.args.item.now) c.args.extent.now c.in-Some.at _ (sym c.in-Some.ensures.value) (omega (arith, c.in-Some.ensures.within, c.requires.known)) c.index-bodies-at.is
 
-after_cut : (c : After-add_cut) → option_and_then (slice_get (map joined c.args.bodies.now)) (place_of c.args.ids.now (item_seen c.args.item.now) c.args.extent.now) ≡ Some (joined c.index-bodies-at.result)
+after_cut : (c : After-add_cut) → named_bytes c.args.ids.now (map joined c.args.bodies.now) (item_seen c.args.item.now) c.args.extent.now ≡ Some (joined c.index-bodies-at.result)
 after_cut c = body_at c.args.ids.now c.args.bodies.now (item_seen c.args.item.now) c.args.extent.now c.in-Some.at _ (sym c.in-Some.ensures.value) (omega (arith, c.in-Some.ensures.within, c.requires.known)) c.index-bodies-at.is
 
 pub add_cut-requires-clause-there : goal.add_cut-requires-clause-there

@@ -1,6 +1,5 @@
 use Rattle.std.proofs.Common.{◌++◌, ◌∷◌, [], ap, ◌∙◌, List, ℕ, map, arith}
 use Rattle.hf_read.proofs.AssocLaws.{one_empty}
-use Rattle.hf_prop.specs.declared.held.Held.{Held}
 use Rattle.hf_read.proofs.Gathered.{all_taken}
 use Rattle.hf_read.proofs.properties.empty_lists.Goals as goal
 

@@ -1,4 +1,4 @@
-use Rattle.std.proofs.Common.{◌≡◌, ℕ, ◌<◌, List, Result, Ok, Err, refl, sym, ap, subst, ◌∙◌}
+use Rattle.std.proofs.Common.{◌≡◌, ℕ, ◌<◌, List, Result, Ok, Err, sym, ap, subst, ◌∙◌}
 use Rattle.hf_base.specs.Members.{Rises}
 use Rattle.hf_base.specs.Reading.{MatchOpen}
 use Rattle.hf_base.specs.declared.fault.ReadRefusal.{ReadRefusal}

@@ -1,6 +1,5 @@
 use Rattle.std.proofs.Common.{◌≡◌, ◌<◌, ℕ, List, Ok, refl, sym, ap, subst, ◌∙◌}
 use Rattle.hf_base.specs.Members.{Rises}
-use Rattle.hf_info.specs.Infe.{Info}
 use Rattle.hf_links.specs.Grpl.{groups_of}
 use Rattle.hf_read.specs.Reading.{links_for, props_for, tables_of}
 use Rattle.hf_read.specs.Seen.{parts_seen}

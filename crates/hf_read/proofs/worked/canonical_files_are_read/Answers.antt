@@ -4,8 +4,8 @@ use Rattle.hf_worked.specs.WorkedPhotograph.{file_of_photograph, file_of_photogr
 use Rattle.hf_worked.specs.WorkedStores.{one_empty_item, greatest_narrow_id, least_wide_id, two_widths, turned_picture, sized_picture, identity_item, overlays, two_alternatives, picture_with_exif, picture_with_xmp, picture_with_thumbnail, every_feature, every_feature_wide, properties_127, properties_128, properties_300, photograph, photograph_redacted, photograph_bare}
 use Rattle.hf_worked.specs.WorkedTables.{file_of_properties_127, file_of_properties_128, file_of_properties_300}
 use Rattle.hf_worked.proofs.ValidStores.{valid_every_feature, valid_every_feature_wide, valid_properties_127, valid_properties_128, valid_properties_300, valid_photograph, valid_photograph_redacted, valid_photograph_bare}
-use Rattle.hf_read.proofs.Opened.{reads}
-use Rattle.hf_read.proofs.ValidRead.{read_valid, unlimited}
+use Rattle.hf_read.proofs.Opened.{reads, reads_unchecked}
+use Rattle.hf_read.proofs.ReadingLaws.{read_valid}
 use Rattle.hf_read.proofs.worked.canonical_files_are_read.Goals as goal
 
 pub returns-clause-one_empty_item : goal.returns-clause-one_empty_item
@@ -57,33 +57,33 @@ unfolding reads file_of_picture_with_thumbnail picture_with_thumbnail
 returns-clause-picture_with_thumbnail c = refl
 
 pub returns-clause-every_feature : goal.returns-clause-every_feature
-unfolding reads unlimited file_of_every_feature every_feature
+unfolding reads_unchecked file_of_every_feature every_feature
 returns-clause-every_feature c = read_valid file_of_every_feature every_feature valid_every_feature refl
 
 pub returns-clause-every_feature_wide : goal.returns-clause-every_feature_wide
-unfolding reads unlimited file_of_every_feature_wide every_feature_wide
+unfolding reads_unchecked file_of_every_feature_wide every_feature_wide
 returns-clause-every_feature_wide c = read_valid file_of_every_feature_wide every_feature_wide valid_every_feature_wide refl
 
 pub returns-clause-properties_127 : goal.returns-clause-properties_127
-unfolding reads unlimited file_of_properties_127 properties_127
+unfolding reads_unchecked file_of_properties_127 properties_127
 returns-clause-properties_127 c = read_valid file_of_properties_127 properties_127 valid_properties_127 refl
 
 pub returns-clause-properties_128 : goal.returns-clause-properties_128
-unfolding reads unlimited file_of_properties_128 properties_128
+unfolding reads_unchecked file_of_properties_128 properties_128
 returns-clause-properties_128 c = read_valid file_of_properties_128 properties_128 valid_properties_128 refl
 
 pub returns-clause-properties_300 : goal.returns-clause-properties_300
-unfolding reads unlimited file_of_properties_300 properties_300
+unfolding reads_unchecked file_of_properties_300 properties_300
 returns-clause-properties_300 c = read_valid file_of_properties_300 properties_300 valid_properties_300 refl
 
 pub returns-clause-photograph : goal.returns-clause-photograph
-unfolding reads unlimited file_of_photograph photograph
+unfolding reads_unchecked file_of_photograph photograph
 returns-clause-photograph c = read_valid file_of_photograph photograph valid_photograph refl
 
 pub returns-clause-photograph_redacted : goal.returns-clause-photograph_redacted
-unfolding reads unlimited file_of_photograph_redacted photograph_redacted
+unfolding reads_unchecked file_of_photograph_redacted photograph_redacted
 returns-clause-photograph_redacted c = read_valid file_of_photograph_redacted photograph_redacted valid_photograph_redacted refl
 
 pub returns-clause-photograph_bare : goal.returns-clause-photograph_bare
-unfolding reads unlimited file_of_photograph_bare photograph_bare
+unfolding reads_unchecked file_of_photograph_bare photograph_bare
 returns-clause-photograph_bare c = read_valid file_of_photograph_bare photograph_bare valid_photograph_bare refl
