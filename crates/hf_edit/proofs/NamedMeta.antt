@@ -1,7 +1,7 @@
 -- How long `meta` is where an item comes beside one with a name.
 use Rattle.std.proofs.Common.{◌≡◌, ℕ, ◌+◌, ◌<◌, ◌*◌, ◌^◌, ap, ◌∙◌, false, List, [], ◌∷◌, ◌++◌, length, length-append, refl, arith}
 use Rattle.std.specs.List.{filter}
-use Rattle.hf_box.specs.Head.{box, box_len}
+use Rattle.hf_box.specs.Head.{box_len}
 use Rattle.hf_box.specs.Literals.{four}
 use Rattle.hf_box.specs.Written.{id_width}
 use Rattle.hf_head.specs.Hdlr.{hdlr_body}
