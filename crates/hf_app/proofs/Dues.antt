@@ -1,8 +1,8 @@
 -- What is due of the files that a command read, and what it answered.
 use Rattle.std.proofs.Common.{◌≡◌, ℕ, ◌<◌, ◌≤◌, List, [], ◌∷◌, length, map, refl, sym, ap, ◌∙◌, inl, inr, ◌⊎◌, subst, true, Result, Ok, Err}
-use Rattle.std.specs.Prelude.{Option, Some, None, IfSome}
+use Rattle.std.specs.Prelude.{Option, Some, None}
 use Rattle.hf_base.specs.declared.limits.TheConstants.{FILE}
-use Rattle.hf_desk.specs.Outside.{Outside, Files, file_of}
+use Rattle.hf_desk.specs.Outside.{Outside, Files}
 use Rattle.hf_desk.specs.Calls.{IfTold, HasFile, ReadsOnly, Rose, Said}
 use Rattle.hf_desk.specs.Making.{IsMade, IsUnmade, IsMadeInPart}
 use Rattle.hf_desk.proofs.Writing.{said_none}
@@ -13,10 +13,9 @@ use Rattle.hf_text.specs.declared.outcome.Outcome.{Outcome}
 use Rattle.hf_text.specs.declared.outcome.Outcome.TheVariants.{Done, Usage, Unfit, Refused, NoSuchItem, TooLong, ReadFault, WriteFault, NoMemory}
 use Rattle.hf_app.specs.Answers.{Answers, Ends, ForDue, HasCause, IfTells, IsDueOrNoMemory, IsSteady, NoFault, OutIsFree, WhereTold}
 use Rattle.hf_app.specs.Due.{Due, IsDefined, IsDue, IsDueOf, IsDueOfEdits, IsDueOfFile, IsDueOfRead, answered}
-use Rattle.hf_app.specs.Reads.{StopsReading}
-use Rattle.hf_app.specs.Sources.{Source, Sourced, Readable, Missing, Long, Whole, IsReadable, bytes_in, content_of, read_of, sourced, sources_from, sources_of}
+use Rattle.hf_app.specs.Sources.{Source, Sourced, Readable, Long, Whole, IsReadable, bytes_in, read_of, sourced, sources_from, sources_of}
 use Rattle.hf_app.specs.Stops.{outcome_of_read}
-use Rattle.hf_app.proofs.Reading.{bytes_there, has_first, long_first, readable_rest, told_of, whole_first}
+use Rattle.hf_app.proofs.Reading.{bytes_there, has_first, long_first, told_of, whole_first}
 
 -- ---- answers
 

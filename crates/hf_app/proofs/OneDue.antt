@@ -1,6 +1,6 @@
 -- What is due is one thing.
-use Rattle.std.proofs.Common.{◌≡◌, ℕ, suc, ◌+◌, ◌-◌, ◌<◌, ◌≤◌, List, [], ◌∷◌, ◌++◌, length, map, take, drop, get_or, refl, sym, ap, ◌∙◌, subst, inl, inr, arith, Bool, true, false, Result, Ok, Err}
-use Rattle.std.specs.Prelude.{Option, Some, None, slice_get}
+use Rattle.std.proofs.Common.{◌≡◌, ℕ, suc, ◌+◌, ◌-◌, ◌<◌, ◌≤◌, List, [], ◌∷◌, ◌++◌, length, map, take, drop, refl, sym, ap, ◌∙◌, subst, inl, inr, arith, Result, Ok, Err}
+use Rattle.std.specs.Prelude.{Option, Some, slice_get}
 use Rattle.std.proofs.Math.Seq.{take-add}
 use Rattle.std.proofs.lemmas.Bool.{cases_lt}
 use Rattle.std.proofs.lemmas.List.{drop_more, take_all}
@@ -8,23 +8,19 @@ use Rattle.std.proofs.lemmas.Option.{get_or_from_slice_get, slice_get_within}
 use Rattle.hf_base.specs.declared.fault.ReadRefusal.{ReadRefusal}
 use Rattle.hf_desk.specs.Outside.{Files}
 use Rattle.hf_edit.specs.Edits.{Edit, Thumb}
-use Rattle.hf_plan.specs.Canon.{Canon}
 use Rattle.hf_plan.proofs.OneFile.{one_canon}
 use Rattle.hf_read.proofs.DenotesLaws.{denotes_one}
-use Rattle.hf_read.specs.Reading.{fault_of}
 use Rattle.hf_store.specs.Lists.{IsIn, RisesFrom}
 use Rattle.hf_store.specs.Store.{Item, ItemStore, ids_of}
 use Rattle.hf_store.specs.Valid.{Valid}
 use Rattle.hf_store.specs.declared.reason.Reason.{Reason}
-use Rattle.hf_text.specs.Answers.{check_text}
 use Rattle.hf_text.specs.Words.{EditWord, Command, Boxes, ListFile, CheckFile, Extract, EditFile, Redact, Trial}
 use Rattle.hf_text.specs.Words as words
 use Rattle.hf_text.specs.declared.outcome.Outcome.TheVariants.{Unfit, Refused}
-use Rattle.hf_app.specs.Due.{Due, IsDue, IsDueOf, IsDueOfCanon, IsDueOfCheck, IsDueOfEdits, IsDueOfExtract, IsDueOfFile, IsDueOfList, IsDueOfRead, IsDueOfRedact, answered, made, said}
+use Rattle.hf_app.specs.Due.{Due, IsDue, IsDueOf, IsDueOfCanon, IsDueOfCheck, IsDueOfEdits, IsDueOfExtract, IsDueOfFile, IsDueOfList, IsDueOfRead, IsDueOfRedact, answered, made}
 use Rattle.hf_app.specs.Edits.{AreAccepted, AreMeant, AreRefused, AreUnfit, IsMeant, IsUnfit, stepped}
-use Rattle.hf_app.specs.Opening.{IsOpened}
 use Rattle.hf_app.specs.Sources.{Sourced, Readable, Missing, Long, Whole, bytes_in, read_of, sourced, sources_of}
-use Rattle.hf_app.proofs.EditChain.{Reached, stepped-append, stopped-append}
+use Rattle.hf_app.proofs.EditChain.{stopped-append}
 use Rattle.hf_app.proofs.Trials.{one_trial}
 
 -- ---- what edits mean is one thing

@@ -1,5 +1,5 @@
 -- What is due of a redacted file.
-use Rattle.std.proofs.Common.{◌≡◌, ℕ, Bool, List, inr, refl, subst, Ok}
+use Rattle.std.proofs.Common.{ℕ, Bool, List, inr, refl, subst, Ok}
 use Rattle.hf_canon.proofs.Denoting.{canon_denotes}
 use Rattle.hf_plan.specs.Canon.{Canon}
 use Rattle.hf_plan.specs.Plan.{Planned}

@@ -1,5 +1,5 @@
 -- Something is due of all files.
-use Rattle.std.proofs.Common.{◌≡◌, ℕ, zero, suc, ◌+◌, ◌<◌, ◌≤◌, List, [], ◌∷◌, ◌++◌, length, map, take, get_or, refl, sym, ap, ◌∙◌, subst, inl, inr, ◌⊎◌, arith, rules, Bool, true, false, Result, Ok, Err}
+use Rattle.std.proofs.Common.{◌≡◌, ℕ, zero, suc, ◌+◌, ◌<◌, ◌≤◌, List, [], ◌∷◌, length, map, take, get_or, refl, sym, ◌∙◌, subst, inl, inr, ◌⊎◌, arith, rules, true, false, Result, Ok, Err}
 use Rattle.std.specs.Prelude.{Option, Some, None, slice_get}
 use Rattle.std.specs.Str.{bytes_eq}
 use Rattle.std.proofs.lemmas.Bool.{cases_Bool, cases_lt}
@@ -31,7 +31,7 @@ use Rattle.hf_text.specs.Words.{EditWord, Command, Boxes, ListFile, CheckFile, E
 use Rattle.hf_text.specs.Words as words
 use Rattle.hf_text.specs.declared.outcome.Outcome.TheVariants.{Usage, Unfit, Refused, NoSuchItem, TooLong}
 use Rattle.hf_app.specs.Due.{Due, IsDefined, IsDue, IsDueOf, IsDueOfCanon, IsDueOfCheck, IsDueOfEdits, IsDueOfExtract, IsDueOfFile, IsDueOfList, IsDueOfRead, IsDueOfRedact, answered, due_of_rows, made, said}
-use Rattle.hf_app.specs.Edits.{AreAccepted, IsMeant, IsUnfit, Steps}
+use Rattle.hf_app.specs.Edits.{AreAccepted, IsMeant, IsUnfit}
 use Rattle.hf_app.specs.Opening.{IsOpened}
 use Rattle.hf_app.specs.Sources.{Readable, Missing, Long, Whole, IsReadable, Sourced, bytes_in, bytes_of, content_of, file_in, read_of, read_then, readable, source_of, sourced, sources_from, sources_of}
 use Rattle.hf_app.specs.declared.stopping.Stop.TheVariants as stops

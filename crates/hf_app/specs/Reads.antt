@@ -1,6 +1,5 @@
 -- Files that are read one after the other.
-use Rattle.std.specs.Prelude.{◌≡◌, ◌≤◌, ℕ, List, length, Some, true, Result, Ok, Err, IfErr, IfSome}
-use Rattle.hf_base.specs.declared.limits.TheConstants.{FILE}
+use Rattle.std.specs.Prelude.{◌≡◌, ℕ, List, Some, true, Result, Ok, Err, IfErr, IfSome}
 use Rattle.hf_desk.specs.Outside.{Outside, Files}
 use Rattle.hf_desk.specs.Calls.{Rose}
 use Rattle.hf_desk.specs.declared.read.ReadStop.{ReadStop}

@@ -1,6 +1,5 @@
-use Rattle.std.proofs.Common.{◌≡◌, ℕ, List, [], length, map, refl, sym, ap, ◌∙◌, rules}
-use Rattle.std.specs.Prelude.{Some, string_bytes}
-use Rattle.hf_desk.specs.Outside.{Files}
+use Rattle.std.proofs.Common.{[], map, refl, ◌∙◌, rules}
+use Rattle.std.specs.Prelude.{string_bytes}
 use Rattle.hf_desk.proofs.Frames.{reads_both}
 use Rattle.hf_text.specs.Commands.{edit_of}
 use Rattle.hf_text.specs.Words.{EditFile}

@@ -1,4 +1,4 @@
-use Rattle.std.proofs.Common.{ℕ, List, [], refl, inr, rules}
+use Rattle.std.proofs.Common.{[], refl, inr, rules}
 use Rattle.hf_text.specs.Listing.{listing_text}
 use Rattle.hf_text.specs.Words.{ListFile}
 use Rattle.hf_text.specs.declared.outcome.Outcome.TheVariants.{Done, WriteFault}

@@ -6,10 +6,8 @@ use Rattle.std.proofs.lemmas.List.{get_or-map, length-map, map-append}
 use Rattle.std.proofs.lemmas.List.Elements.{All-push}
 use Rattle.std.proofs.lemmas.Result.{err_from_is_err_and}
 use Rattle.hf_base.specs.declared.limits.TheConstants.{FILE}
-use Rattle.hf_desk.specs.Outside.{Files}
 use Rattle.hf_desk.proofs.Frames.{reads_both}
 use Rattle.hf_text.specs.Commands.{edit_of}
-use Rattle.hf_text.specs.Words.{EditWord}
 use Rattle.hf_app.specs.Sources.{Whole, content_of, read_of, source_of}
 use Rattle.hf_app.proofs.SourceLaws.{content_more, readable_now, some_is, stops_now, whole_more}
 use Rattle.hf_app.proofs.sources.read_sources.Goals as goal
